@@ -1,0 +1,33 @@
+-- The one-dimensional inverse transforms of the AV1 specification, section 7.13.2, over whole numbers: no clip.
+use mathlib.Core.List.{List, [], _∷_, map}
+use lib.IntN.{ℤ, pos, _+ℤ_, _-ℤ_, _*ℤ_}
+use Rattle.whole.specs.Numbers.{_>>_, round2}
+use Rattle.whole.specs.Lists.{at}
+use Rattle.av1.specs.Sides.{Side, of4, of8, of16, of32, bits}
+use Rattle.av1.specs.Network.{dct}
+use Rattle.av1.specs.Values.{exact}
+
+-- 7.13.2.3
+abbrev pub av1-dct : Side → List ℤ → List ℤ
+av1-dct n xs = dct exact (bits n) xs
+
+-- 7.13.2.15, one element
+unfoldable pub av1-identity : Side → ℤ → ℤ
+av1-identity of4 v = round2 (v *ℤ pos 5793) 12
+av1-identity of8 v = v *ℤ pos 2
+av1-identity of16 v = round2 (v *ℤ pos 11586) 12
+av1-identity of32 v = v *ℤ pos 4
+
+-- 7.13.2.10, of values that are already shifted: a = T[0], c = T[1], d = T[2], b = T[3]
+unfoldable pub av1-wht : List ℤ → List ℤ
+av1-wht xs =
+    let a = at xs 0 in
+    let c = at xs 1 in
+    let d = at xs 2 in
+    let b = at xs 3 in
+    let a′ = a +ℤ c in
+    let d′ = d -ℤ b in
+    let e = a′ -ℤ d′ >> 1 in
+    let b′ = e -ℤ b in
+    let c′ = e -ℤ c in
+    (a′ -ℤ b′) ∷ b′ ∷ c′ ∷ (d′ +ℤ c′) ∷ []

@@ -1,0 +1,18 @@
+-- The lengths of a pass, which are the sides of a block (document 01, "Sizes, types, depths").
+use Prim.Native.Nat.{ℕ}
+
+pub data Side : Type 0 where
+  of4 of8 of16 of32 : Side
+
+abbrev pub len : Side → ℕ
+len of4 = 4
+len of8 = 8
+len of16 = 16
+len of32 = 32
+
+-- the length is 2 ^ bits
+abbrev pub bits : Side → ℕ
+bits of4 = 2
+bits of8 = 3
+bits of16 = 4
+bits of32 = 5

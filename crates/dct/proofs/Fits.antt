@@ -1,0 +1,76 @@
+-- The bounds hold: a step whose test is passed can be run, and the array is then within the next bounds.
+use mathlib.Core.Path.{_≡_, refl, subst}
+use mathlib.Core.Bool.{Bool, true, false, _&&_}
+use mathlib.Core.List.{List, [], _∷_}
+use Prim.Native.Nat.{ℕ, _≤_}
+use native.Mathlib.Nat.{le-trans}
+use native.Mathlib.Omega.{arith}
+use lib.IntN.{ℤ, pos, natAbs, _+ℤ_, _-ℤ_}
+use lib.Dec.{T, leb, ltb, leb→le, ltb→lt}
+use lib.ListN.{getD}
+use mir.Facts.{and-yes}
+use Rattle.whole.specs.Numbers.{_>>_, round2, clip}
+use Rattle.whole.specs.Lists.{at}
+use Rattle.whole.proofs.Clips.{clip-abs}
+use Rattle.whole.proofs.Machine.{var, lit, _⊕_, _⊝_, _⊛_, _≫_, bound}
+use Rattle.av1.specs.Network.{Step, B, H, step, run}
+use Rattle.av1.specs.Values.{turnX, turnY, exact, clipped}
+use Rattle.av1.proofs.Related as Related
+use Rattle.dct.specs.Fitting.{Ends, Turnable, Mixable, Small, sizes, fits, fitting, Able}
+
+module _ {lo hi : ℤ} (ends : Ends lo hi) where
+  pub keep-small : Related.Respects (clipped lo hi) sizes Small
+  unfolding Rattle.whole.specs.Numbers.round2 Rattle.whole.specs.Numbers._>>_
+  keep-small = record {
+    none = omega arith;
+    cosine = λ c s x y m n p q. bound (x ∷ y ∷ []) (m ∷ n ∷ []) (p, (q, tt)) (var 0 ⊛ lit c ⊝ var 1 ⊛ lit s ⊕ lit (pos 2048) ≫ 12);
+    sine = λ c s x y m n p q. bound (x ∷ y ∷ []) (m ∷ n ∷ []) (p, (q, tt)) (var 0 ⊛ lit s ⊕ var 1 ⊛ lit c ⊕ lit (pos 2048) ≫ 12);
+    sum = λ x y m n p q. clip-abs (x +ℤ y) lo hi (ends .low) (ends .high);
+    diff = λ x y m n p q. clip-abs (x -ℤ y) lo hi (ends .low) (ends .high);
+  }
+
+  pub able-next : {s : Step} {ss : List Step} {t : List ℤ} → Able (s ∷ ss) t → Able ss (step (clipped lo hi) s t)
+  able-next {s} {ss} a = record {
+    β = step sizes s (a .β);
+    inside = Related.step-related keep-small s (a .inside);
+    ok = and-yes (fits s (a .β)) (fitting ss (step sizes s (a .β))) (a .ok) .1;
+  }
+
+-- an element is as small as its bound allows
+small-at : (t : List ℤ) (β : List ℕ) (most : ℕ) → Related.Both Small t β → (i : ℕ) → T (leb (getD β i 0) most) → natAbs (at t i) ≤ most
+small-at t β most h i k = le-trans (Related.at Small (pos 0) 0 (omega arith) h i) (leb→le (getD β i 0) most k)
+
+pub able-turn : {a b : ℕ} {c s : ℤ} {flip : Bool} {ss : List Step} {t : List ℤ} → Able (B a b c s flip ∷ ss) t → Turnable t a b c s
+able-turn {a} {b} {c} {s} {flip} {ss} {t} w =
+    let β = w .β in
+    let p = and-yes (ltb a 32 && ltb b 32) _ (and-yes (fits (B a b c s flip) β) (fitting ss (step sizes (B a b c s flip) β)) (w .ok) .0) in
+    let q = and-yes (leb (getD β a 0) 524288 && leb (getD β b 0) 524288) (leb (natAbs c) 4096 && leb (natAbs s) 4096) (p .1) in
+    let ab = and-yes (ltb a 32) (ltb b 32) (p .0) in
+    let xy = and-yes (leb (getD β a 0) 524288) (leb (getD β b 0) 524288) (q .0) in
+    let cs = and-yes (leb (natAbs c) 4096) (leb (natAbs s) 4096) (q .1) in
+    record {
+      a-in = ltb→lt a 32 (ab .0);
+      b-in = ltb→lt b 32 (ab .1);
+      x-small = small-at t β 524288 (w .inside) a (xy .0);
+      y-small = small-at t β 524288 (w .inside) b (xy .1);
+      cos-small = leb→le _ 4096 (cs .0);
+      sin-small = leb→le _ 4096 (cs .1);
+    }
+
+pub able-join : {a b : ℕ} {ss : List Step} {t : List ℤ} → Able (H a b ∷ ss) t → Mixable t a b
+able-join {a} {b} {ss} {t} w =
+    let β = w .β in
+    let p = and-yes (ltb a 32 && ltb b 32) _ (and-yes (fits (H a b) β) (fitting ss (step sizes (H a b) β)) (w .ok) .0) in
+    let ab = and-yes (ltb a 32) (ltb b 32) (p .0) in
+    let xy = and-yes (leb (getD β a 0) 1073741823) (leb (getD β b 0) 1073741823) (p .1) in
+    record {
+      a-in = ltb→lt a 32 (ab .0);
+      b-in = ltb→lt b 32 (ab .1);
+      x-mid = small-at t β 1073741823 (w .inside) a (xy .0);
+      y-mid = small-at t β 1073741823 (w .inside) b (xy .1);
+    }
+
+-- a turn has no clip
+pub no-clip : (lo hi : ℤ) (a b : ℕ) (c s : ℤ) (flip : Bool) (t : List ℤ) → step exact (B a b c s flip) t ≡ step (clipped lo hi) (B a b c s flip) t
+no-clip lo hi a b c s true t = refl
+no-clip lo hi a b c s false t = refl

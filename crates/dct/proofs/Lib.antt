@@ -1,0 +1,5 @@
+-- Laws of the DCT by halves.
+pub mod Order
+pub mod Fits
+pub mod Tables
+pub mod Walk

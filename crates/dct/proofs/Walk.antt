@@ -1,0 +1,81 @@
+-- How far a walk through the steps has come: what the work array holds, and its bounds.
+use mathlib.Core.Path.{_≡_, refl, sym, ap, _∙_, subst⁻¹}
+use mathlib.Core.Bool.{Bool, true, false}
+use mathlib.Core.List.{List, [], _∷_, _++_}
+use Prim.Native.Nat.{ℕ}
+use lib.IntN.{ℤ}
+use lib.Dec.{T}
+use lib.ListN.{length}
+use mir.Syntax.{w32}
+use mir.Val.{SFits, toZ, ofZ}
+use mir.ValLaws.{toZ-ofZ}
+use Rattle.whole.proofs.Held.{to2}
+use Rattle.av1.specs.Network.{Alg, Step, B, H, step, run}
+use Rattle.av1.specs.Values.{exact, clipped}
+use Rattle.av1.proofs.Related.{Both, run-related}
+use Rattle.dct.specs.Halves.{before, last, hits}
+use Rattle.dct.specs.Fitting.{Ends, Small, sizes, fitting}
+use Rattle.dct.specs.Stages.{turns, joins, small, Turning, Joining, Joined, Ready, Through}
+use Rattle.dct.proofs.Fits.{keep-small, no-clip}
+
+run-append : {A : Type 0} (𝓐 : Alg A) (ss rs : List Step) (xs : List A) → run 𝓐 (ss ++ rs) xs ≡ run 𝓐 rs (run 𝓐 ss xs)
+run-append 𝓐 [] rs xs = refl
+run-append 𝓐 (s ∷ ss) rs xs = run-append 𝓐 ss rs (step 𝓐 s xs)
+
+-- turns have no clip
+abbrev pub are-turns : List Step → Bool
+are-turns [] = true
+are-turns (B a b c s flip ∷ ss) = are-turns ss
+are-turns (H a b ∷ ss) = false
+
+turns-exact : (lo hi : ℤ) (ss : List Step) (t : List ℤ) → T (are-turns ss) → run exact ss t ≡ run (clipped lo hi) ss t
+turns-exact lo hi [] t k = refl
+turns-exact lo hi (B a b c s flip ∷ ss) t k = ap (run exact ss) (no-clip lo hi a b c s flip t) ∙ turns-exact lo hi ss (step (clipped lo hi) (B a b c s flip) t) k
+turns-exact lo hi (H a b ∷ ss) t k = absurd k
+
+-- what a callee says of the ends as it read them
+module _ {lo hi : ℤ} (f : SFits w32 lo) (g : SFits w32 hi) where
+  pub read-back : {A : Type 0} (F : ℤ → ℤ → A) → F (toZ w32 (ofZ w32 lo)) (toZ w32 (ofZ w32 hi)) ≡ F lo hi
+  read-back F = λ i. F (toZ-ofZ w32 lo f i) (toZ-ofZ w32 hi g i)
+
+-- after the steps ss from t
+pub record Walked (lo hi : ℤ) (t : List ℤ) (ss : List Step) (u : List ℤ) : Type 0 where
+  pub low-fits : SFits w32 lo
+  pub high-fits : SFits w32 hi
+  pub ends : Ends lo hi
+  pub is : u ≡ run (clipped lo hi) ss t
+  pub inside : Both Small u (run sizes ss small)
+
+pub begin : {lo hi : ℤ} {t : List ℤ} → SFits w32 lo → SFits w32 hi → Ready t lo hi → Walked lo hi t [] t
+begin f g r = record { low-fits = f; high-fits = g; ends = r .ends; is = refl; inside = r .inside }
+
+module _ {lo hi : ℤ} {t : List ℤ} {ss : List Step} {u v : List ℤ} (w : Walked lo hi t ss u) where
+  more : (rs : List Step) → v ≡ run (clipped lo hi) rs u → Walked lo hi t (ss ++ rs) v
+  more rs e = record {
+    low-fits = w .low-fits;
+    high-fits = w .high-fits;
+    ends = w .ends;
+    is = e ∙ ap (run (clipped lo hi) rs) (w .is) ∙ sym (run-append (clipped lo hi) ss rs t);
+    inside = subst⁻¹ (Both Small v) (run-append sizes ss rs small) (subst⁻¹ (λ (x : List ℤ). Both Small x (run sizes rs (run sizes ss small))) e (run-related (keep-small (w .ends)) rs (w .inside)));
+  }
+
+  pub turned : (rs : List Step) → T (are-turns rs) → v ≡ run exact rs u → Walked lo hi t (ss ++ rs) v
+  turned rs k e = more rs (e ∙ turns-exact lo hi rs u k)
+
+  pub joined : {r : Bool} (rs : List Step) → Joined rs (toZ w32 (ofZ w32 lo)) (toZ w32 (ofZ w32 hi)) u v r → Walked lo hi t (ss ++ rs) v
+  joined rs e = more rs (e .elements ∙ read-back (w .low-fits) (w .high-fits) (λ x y. run (clipped x y) rs u))
+
+  pub mark-is : {r : Bool} (rs : List Step) → Joined rs (toZ w32 (ofZ w32 lo)) (toZ w32 (ofZ w32 hi)) u v r → r ≡ hits lo hi rs (run (clipped lo hi) ss t)
+  mark-is rs e = e .mark ∙ read-back (w .low-fits) (w .high-fits) (λ x y. hits x y rs u) ∙ ap (hits lo hi rs) (w .is)
+
+-- the half
+pub halved : {lo hi : ℤ} {t u : List ℤ} {r : Bool} (n : ℕ) → SFits w32 lo → SFits w32 hi → Ready t lo hi → Through n (toZ w32 (ofZ w32 lo)) (toZ w32 (ofZ w32 hi)) t u r → Walked lo hi t (before n ++ last n) u
+halved {t = t} n f g q e = more (begin f g q) (before n ++ last n) (e .elements ∙ read-back f g (λ x y. run (clipped x y) (before n ++ last n) t))
+
+-- what the next stage's code asks
+module _ {lo hi : ℤ} {t : List ℤ} {ss : List Step} {u : List ℤ} (w : Walked lo hi t ss u) where
+  pub ask-turns : {flip : Bool} {ps : List ℕ} {cs : List ℤ} → length ps ≡ length cs → T (fitting (turns flip ps cs) (run sizes ss small)) → Turning flip ps cs u
+  ask-turns e k = record { even = e; able = record { β = run sizes ss small; inside = w .inside; ok = k } }
+
+  pub ask-joins : {ps : List ℕ} → T (fitting (joins ps) (run sizes ss small)) → Joining ps u (toZ w32 (ofZ w32 lo)) (toZ w32 (ofZ w32 hi))
+  ask-joins k = record { able = record { β = run sizes ss small; inside = w .inside; ok = k }; ends = to2 Ends (w .low-fits) (w .high-fits) (w .ends) }

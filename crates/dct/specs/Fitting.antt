@@ -1,0 +1,61 @@
+-- Bounds through the steps, computed on the steps: that every sum fits 32 bits, and that a turn's inputs are clipped values.
+use mathlib.Core.Bool.{Bool, true, false, _&&_}
+use mathlib.Core.List.{List, [], _∷_}
+use Prim.Native.Nat.{ℕ, suc, _+_, _*_, _/_, _≤_, _<_}
+use lib.IntN.{ℤ, natAbs}
+use lib.Dec.{T, leb, ltb}
+use lib.ListN.{getD}
+use Rattle.whole.specs.Lists.{at}
+use Rattle.av1.specs.Network.{Alg, Step, B, H, step}
+use Rattle.av1.proofs.Related.{Both}
+
+-- the size of a turned number; a clipped one is at most 524288
+abbrev turned : ℕ → ℕ → ℤ → ℤ → ℕ
+turned x y p q = suc ((x * natAbs p + y * natAbs q + 2048) / 4096)
+
+abbrev pub sizes : Alg ℕ
+sizes = record {
+  none = 0;
+  cosine = λ c s x y. turned x y c s;
+  sine = λ c s x y. turned x y s c;
+  sum = λ x y. 524288;
+  diff = λ x y. 524288;
+}
+
+abbrev pub Small : ℤ → ℕ → Type 0
+Small z n = natAbs z ≤ n
+
+-- the ends of a range
+pub record Ends (lo hi : ℤ) : Type 0 where
+  pub low : natAbs lo ≤ 524288
+  pub high : natAbs hi ≤ 524288
+
+-- what the code of a turn, and of a butterfly, asks of the work array
+pub record Turnable (t : List ℤ) (a b : ℕ) (c s : ℤ) : Type 0 where
+  pub a-in : a < 32
+  pub b-in : b < 32
+  pub x-small : natAbs (at t a) ≤ 524288
+  pub y-small : natAbs (at t b) ≤ 524288
+  pub cos-small : natAbs c ≤ 4096
+  pub sin-small : natAbs s ≤ 4096
+
+pub record Mixable (t : List ℤ) (a b : ℕ) : Type 0 where
+  pub a-in : a < 32
+  pub b-in : b < 32
+  pub x-mid : natAbs (at t a) ≤ 1073741823
+  pub y-mid : natAbs (at t b) ≤ 1073741823
+
+-- the same as a test on the bounds
+abbrev pub fits : Step → List ℕ → Bool
+fits (B a b c s flip) β = (ltb a 32 && ltb b 32) && ((leb (getD β a 0) 524288 && leb (getD β b 0) 524288) && (leb (natAbs c) 4096 && leb (natAbs s) 4096))
+fits (H a b) β = (ltb a 32 && ltb b 32) && (leb (getD β a 0) 1073741823 && leb (getD β b 0) 1073741823)
+
+abbrev pub fitting : List Step → List ℕ → Bool
+fitting [] β = true
+fitting (s ∷ ss) β = fits s β && fitting ss (step sizes s β)
+
+-- the work array is such that the steps can be run
+pub record Able (ss : List Step) (t : List ℤ) : Type 0 where
+  pub β : List ℕ
+  pub inside : Both Small t β
+  pub ok : T (fitting ss β)

@@ -1,0 +1,50 @@
+-- Stages: runs of steps of one kind, written as tables.
+use mathlib.Core.Path.{_≡_}
+use mathlib.Core.Bool.{Bool}
+use mathlib.Core.List.{List, [], _∷_, _++_}
+use Prim.Native.Nat.{ℕ}
+use lib.IntN.{ℤ}
+use lib.ListN.{length, replicate}
+use Rattle.av1.specs.Network.{Step, B, H, run}
+use Rattle.av1.specs.Values.{exact, clipped}
+use Rattle.av1.proofs.Related.{Both}
+use Rattle.dct.specs.Halves.{before, last, hits}
+use Rattle.dct.specs.Fitting.{Able, Ends, Small}
+
+-- a, b, a, b, .. and cosine, sine, cosine, sine, ..
+abbrev pub turns : Bool → List ℕ → List ℤ → List Step
+turns flip [] cs = []
+turns flip (a ∷ []) cs = []
+turns flip (a ∷ b ∷ ps) [] = []
+turns flip (a ∷ b ∷ ps) (c ∷ []) = []
+turns flip (a ∷ b ∷ ps) (c ∷ s ∷ cs) = B a b c s flip ∷ turns flip ps cs
+
+abbrev pub joins : List ℕ → List Step
+joins [] = []
+joins (a ∷ []) = []
+joins (a ∷ b ∷ ps) = H a b ∷ joins ps
+
+-- what the two loops ask, and what butterflies give
+pub record Turning (flip : Bool) (ps : List ℕ) (cs : List ℤ) (t : List ℤ) : Type 0 where
+  pub even : length ps ≡ length cs
+  pub able : Able (turns flip ps cs) t
+
+pub record Joining (ps : List ℕ) (t : List ℤ) (lo hi : ℤ) : Type 0 where
+  pub able : Able (joins ps) t
+  pub ends : Ends lo hi
+
+pub record Joined (ss : List Step) (lo hi : ℤ) (t u : List ℤ) (r : Bool) : Type 0 where
+  pub elements : u ≡ run (clipped lo hi) ss t
+  pub mark : r ≡ hits lo hi ss t
+
+-- what a DCT of 2 ^ suc n points on the work array asks, and gives: the mark is that of the last butterflies
+abbrev pub small : List ℕ
+small = replicate 32 524288
+
+pub record Ready (t : List ℤ) (lo hi : ℤ) : Type 0 where
+  pub inside : Both Small t small
+  pub ends : Ends lo hi
+
+pub record Through (n : ℕ) (lo hi : ℤ) (t u : List ℤ) (r : Bool) : Type 0 where
+  pub elements : u ≡ run (clipped lo hi) (before n ++ last n) t
+  pub mark : r ≡ hits lo hi (last n) (run (clipped lo hi) (before n) t)

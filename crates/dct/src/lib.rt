@@ -1,0 +1,294 @@
+// The DCTs of src/itx_1d.rs on a work array that holds the inputs in bit-reversed order.
+ghost use mathlib.Core.Path.{_≡_};
+ghost use mathlib.Core.List.{_∷_, []};
+ghost use lib.IntN.{ℤ};
+ghost use Rattle.av1.specs.Network as Network;
+ghost use Rattle.av1.specs.Values.{exact, clipped};
+ghost use Rattle.dct.specs.Halves.{hits};
+ghost use Rattle.dct.specs.Fitting.{Turnable, Mixable};
+ghost use Rattle.dct.specs.Stages as Stages;
+use intops::dot;
+use intops::iclip;
+use intops::outside;
+
+// B of section 7.13.2.2.
+fn turn(t: &mut [i32; 32], a: usize, b: usize, cos: i32, sin: i32, flip: bool)
+    requires { ⌜ Turnable (now t) a b cos sin ⌝ }
+    ensures { λ _. ⌜ now (t .exit) ≡ Network.step exact (Network.B a b cos sin flip) (now (t .entry)) ⌝ }
+{
+    let x = t[a];
+    let y = t[b];
+    let u = dot(x, cos, y, -sin);
+    let v = dot(x, sin, y, cos);
+    if flip {
+        t[a] = v;
+        t[b] = u;
+    } else {
+        t[a] = u;
+        t[b] = v;
+    }
+}
+
+// H of section 7.13.2.2 with the crate's clips, and whether one of them changed a value.
+fn join(t: &mut [i32; 32], a: usize, b: usize, min: i32, max: i32) -> bool
+    requires { ⌜ Mixable (now t) a b ⌝ }
+    ensures { λ r. ⌜ Stages.Joined (Network.H a b ∷ []) min max (now (t .entry)) (now (t .exit)) r ⌝ }
+{
+    let x = t[a];
+    let y = t[b];
+    let u = x + y;
+    let v = x - y;
+    let p = iclip(u, min, max);
+    let q = iclip(v, min, max);
+    t[a] = p;
+    t[b] = q;
+    outside(u, min, max) | outside(v, min, max)
+}
+
+// A stage of turns: `pairs` has a, b for each, `angles` cosine, sine.
+fn turns(t: &mut [i32; 32], pairs: &[usize], angles: &[i32], flip: bool)
+    requires { ⌜ Stages.Turning flip (now pairs) (now angles) (now t) ⌝ }
+    ensures { λ _. ⌜ now (t .exit) ≡ Network.run exact (Stages.turns flip (now (pairs .entry)) (now (angles .entry))) (now (t .entry)) ⌝ }
+{
+    let mut i = 0;
+    while i + 1 < pairs.len() {
+        let a = pairs[i];
+        let b = pairs[i + 1];
+        let cos = angles[i];
+        let sin = angles[i + 1];
+        turn(&mut *t, a, b, cos, sin, flip);
+        i += 2;
+    }
+}
+
+// A stage of butterflies: `pairs` has a, b for each.
+fn joins(t: &mut [i32; 32], pairs: &[usize], min: i32, max: i32) -> bool
+    requires { ⌜ Stages.Joining (now pairs) (now t) min max ⌝ }
+    ensures { λ r. ⌜ Stages.Joined (Stages.joins (now (pairs .entry))) min max (now (t .entry)) (now (t .exit)) r ⌝ }
+{
+    let mut mark = false;
+    let mut i = 0;
+    while i + 1 < pairs.len() {
+        let a = pairs[i];
+        let b = pairs[i + 1];
+        let hit = join(&mut *t, a, b, min, max);
+        mark = mark | hit;
+        i += 2;
+    }
+    mark
+}
+
+// Which clips raise the mark: document 01 counts those alone that store what the pass leaves.
+fn mark_of(inner: bool, last: bool) -> bool
+    ensures { λ r. ⌜ r ≡ last ⌝ }
+{
+    last
+}
+
+// inv_dct4_1d_internal_c with `tx64` 0, on the first four elements. What it leaves is in the order of the outputs.
+pub fn dct4(t: &mut [i32; 32], min: i32, max: i32) -> bool
+    requires { ⌜ Stages.Ready (now t) min max ⌝ }
+    ensures { λ r. ⌜ Stages.Through 1 min max (now (t .entry)) (now (t .exit)) r ⌝ }
+{
+    turns(&mut *t, &[0, 1], &[2896, 2896], true);
+    turns(&mut *t, &[2, 3], &[1567, 3784], false);
+    let last = joins(&mut *t, &[0, 3, 1, 2], min, max);
+    mark_of(false, last)
+}
+
+// inv_dct8_1d_internal_c: the half on the even inputs, which stand first, the odd ones, and the last butterflies.
+pub fn dct8(t: &mut [i32; 32], min: i32, max: i32) -> bool
+    requires { ⌜ Stages.Ready (now t) min max ⌝ }
+    ensures { λ r. ⌜ Stages.Through 2 min max (now (t .entry)) (now (t .exit)) r ⌝ }
+{
+    let half = dct4(&mut *t, min, max);
+    turns(&mut *t, &[4, 7, 5, 6], &[799, 4017, 3406, 2276], false);
+    let odd = joins(&mut *t, &[4, 5, 7, 6], min, max);
+    turns(&mut *t, &[6, 5], &[2896, 2896], true);
+    let last = joins(&mut *t, &[0, 7, 1, 6, 2, 5, 3, 4], min, max);
+    mark_of(half | odd, last)
+}
+
+const TURNS16: [usize; 8] = [8, 15, 9, 14, 10, 13, 11, 12];
+
+const ANGLES16: [i32; 8] = [401, 4076, 3166, 2598, 1931, 3612, 3920, 1189];
+
+const JOINS16: [usize; 8] = [8, 9, 11, 10, 12, 13, 15, 14];
+
+const JOINS16A: [usize; 8] = [8, 11, 9, 10, 15, 12, 14, 13];
+
+const LAST16: [usize; 16] = [0, 15, 1, 14, 2, 13, 3, 12, 4, 11, 5, 10, 6, 9, 7, 8];
+
+// inv_dct16_1d_internal_c.
+pub fn dct16(t: &mut [i32; 32], min: i32, max: i32) -> bool
+    requires { ⌜ Stages.Ready (now t) min max ⌝ }
+    ensures { λ r. ⌜ Stages.Through 3 min max (now (t .entry)) (now (t .exit)) r ⌝ }
+{
+    let half = dct8(&mut *t, min, max);
+    turns(&mut *t, &TURNS16, &ANGLES16, false);
+    let odd = joins(&mut *t, &JOINS16, min, max);
+    turns(&mut *t, &[14, 9, 13, 10], &[1567, 3784, -3784, 1567], true);
+    let odd_a = joins(&mut *t, &JOINS16A, min, max);
+    turns(&mut *t, &[13, 10, 12, 11], &[2896, 2896, 2896, 2896], true);
+    let last = joins(&mut *t, &LAST16, min, max);
+    mark_of(half | odd | odd_a, last)
+}
+
+const TURNS32: [usize; 16] = [
+    16,
+    31,
+    17,
+    30,
+    18,
+    29,
+    19,
+    28,
+    20,
+    27,
+    21,
+    26,
+    22,
+    25,
+    23,
+    24,
+];
+
+const ANGLES32: [i32; 16] = [
+    201,
+    4091,
+    3035,
+    2751,
+    1751,
+    3703,
+    3857,
+    1380,
+    995,
+    3973,
+    3513,
+    2106,
+    2440,
+    3290,
+    4052,
+    601,
+];
+
+const JOINS32: [usize; 16] = [
+    16,
+    17,
+    19,
+    18,
+    20,
+    21,
+    23,
+    22,
+    24,
+    25,
+    27,
+    26,
+    28,
+    29,
+    31,
+    30,
+];
+
+const TURNS32A: [usize; 8] = [30, 17, 29, 18, 26, 21, 25, 22];
+
+const ANGLES32A: [i32; 8] = [799, 4017, -4017, 799, 3406, 2276, -2276, 3406];
+
+const JOINS32A: [usize; 16] = [
+    16,
+    19,
+    17,
+    18,
+    23,
+    20,
+    22,
+    21,
+    24,
+    27,
+    25,
+    26,
+    31,
+    28,
+    30,
+    29,
+];
+
+const TURNS32B: [usize; 8] = [29, 18, 28, 19, 27, 20, 26, 21];
+
+const ANGLES32B: [i32; 8] = [1567, 3784, 1567, 3784, -3784, 1567, -3784, 1567];
+
+const JOINS32B: [usize; 16] = [
+    16,
+    23,
+    17,
+    22,
+    18,
+    21,
+    19,
+    20,
+    31,
+    24,
+    30,
+    25,
+    29,
+    26,
+    28,
+    27,
+];
+
+const TURNS32C: [usize; 8] = [27, 20, 26, 21, 25, 22, 24, 23];
+
+const ANGLES32C: [i32; 8] = [2896, 2896, 2896, 2896, 2896, 2896, 2896, 2896];
+
+const LAST32: [usize; 32] = [
+    0,
+    31,
+    1,
+    30,
+    2,
+    29,
+    3,
+    28,
+    4,
+    27,
+    5,
+    26,
+    6,
+    25,
+    7,
+    24,
+    8,
+    23,
+    9,
+    22,
+    10,
+    21,
+    11,
+    20,
+    12,
+    19,
+    13,
+    18,
+    14,
+    17,
+    15,
+    16,
+];
+
+// inv_dct32_1d_internal_c.
+pub fn dct32(t: &mut [i32; 32], min: i32, max: i32) -> bool
+    requires { ⌜ Stages.Ready (now t) min max ⌝ }
+    ensures { λ r. ⌜ Stages.Through 4 min max (now (t .entry)) (now (t .exit)) r ⌝ }
+{
+    let half = dct16(&mut *t, min, max);
+    turns(&mut *t, &TURNS32, &ANGLES32, false);
+    let odd = joins(&mut *t, &JOINS32, min, max);
+    turns(&mut *t, &TURNS32A, &ANGLES32A, true);
+    let odd_a = joins(&mut *t, &JOINS32A, min, max);
+    turns(&mut *t, &TURNS32B, &ANGLES32B, true);
+    let odd_b = joins(&mut *t, &JOINS32B, min, max);
+    turns(&mut *t, &TURNS32C, &ANGLES32C, true);
+    let last = joins(&mut *t, &LAST32, min, max);
+    mark_of(half | odd | odd_a | odd_b, last)
+}

@@ -1,0 +1,33 @@
+// include/common/intops.rs, and the two numbers that every pass is made of.
+ghost use mathlib.Core.Path.{_≡_};
+ghost use lib.IntN.{ℤ, _+ℤ_, _*ℤ_};
+ghost use Rattle.whole.specs.Numbers.{clip, round2};
+ghost use Rattle.whole.specs.Numbers as Numbers;
+ghost use Rattle.intops.specs.Asked.{Dot};
+
+pub fn iclip(v: i32, min: i32, max: i32) -> i32
+    ensures { λ r. ⌜ r ≡ clip v min max ⌝ }
+{
+    if v < min {
+        min
+    } else if max < v {
+        max
+    } else {
+        v
+    }
+}
+
+// Whether `iclip` changes v.
+pub fn outside(v: i32, min: i32, max: i32) -> bool
+    ensures { λ r. ⌜ r ≡ Numbers.outside v min max ⌝ }
+{
+    (v < min) | (max < v)
+}
+
+// x·p + y·q by 4096, rounded: every rotation of the crate, without its reductions, since 64 bits hold the sum.
+pub fn dot(x: i32, p: i32, y: i32, q: i32) -> i32
+    requires { ⌜ Dot x p y q ⌝ }
+    ensures { λ r. ⌜ r ≡ round2 (x *ℤ p +ℤ y *ℤ q) 12 ⌝ }
+{
+    (x as i64 * p as i64 + y as i64 * q as i64 + 2048 >> 12) as i32
+}

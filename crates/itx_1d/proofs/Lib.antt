@@ -1,0 +1,7 @@
+-- Laws of the passes.
+pub mod PassLaws
+pub mod Strides
+pub mod Through
+pub mod Checks
+pub mod Accepted
+pub mod Unique

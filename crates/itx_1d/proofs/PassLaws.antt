@@ -1,0 +1,236 @@
+-- Laws of a pass, each for every kind and every length.
+use mathlib.Core.Path.{_≡_, refl, sym, ap, _∙_, subst, subst⁻¹}
+use mathlib.Core.Bool.{Bool, true, false}
+use mathlib.Core.List.{List, [], _∷_, map}
+use Prim.Native.Nat.{ℕ, zero, suc, _+_, _*_, _-_, _^_, _≤_}
+use native.Mathlib.Nat.{le-trans}
+use native.Mathlib.Omega.{arith}
+use lib.IntN.{ℤ, pos, _+ℤ_, _*ℤ_, natAbs}
+use lib.ListN.{getD, length, replicate, length-set}
+use Rattle.whole.specs.Numbers.{_>>_, round2, outside, low, high}
+use Rattle.whole.specs.Lists.{at, tab}
+use Rattle.whole.proofs.Counts.{tab-ext, tab-length, replicate-tab, map-at, map-length, map-ext}
+use Rattle.whole.proofs.Floors.{floor-one}
+use Rattle.whole.proofs.Machine.{Within, E, var, lit, _⊕_, _⊝_, _⊛_, _≫_, bound}
+use Rattle.whole.proofs.Parts.{rep-self, rep-add, rep-mul}
+use Rattle.whole.proofs.Ranges.{zero-inside, inside-abs, scaled, round-floor, scaled-inside, by-181}
+use Rattle.av1.specs.Sides.{Side, of4, of8, of16, of32, len, bits}
+use Rattle.av1.specs.Network.{Alg, Step, B, H, step, run, brev, steps, permuted, dct}
+use Rattle.av1.specs.Values.{Marked, unmarked, values, marks, marked, clipped, stored-only, all-along}
+use Rattle.av1.specs.Passes.{av1-dct, av1-identity, av1-wht}
+use Rattle.av1.proofs.Known as Known
+use Rattle.av1.proofs.Unclipped.{marked-values, unclipped}
+use Rattle.itx_1d.specs.Passes.{Passed, stepped, identity, wht, pass, clip-acts}
+use Rattle.itx_1d.specs.declared.Kind.{Kind}
+use Rattle.itx_1d.specs.declared.Kind.the-variants.{Dct, Identity, Wht}
+
+-- ---- one number first and nothing else
+
+-- d, 0, 0, ..
+abbrev pub only : ℤ → ℕ → ℤ
+only d zero = d
+only d (suc i) = pos 0
+
+first-only : (n : Side) (d : ℤ) → map unmarked (tab (len n) (only d)) ≡ unmarked d ∷ replicate (len n - 1) (unmarked (pos 0))
+first-only of4 d = refl
+first-only of8 d = refl
+first-only of16 d = refl
+first-only of32 d = refl
+
+-- marked numbers as a pass leaves them
+abbrev passed : List Marked → Passed
+passed ms = record { values = values ms; mark = marks ms }
+
+passed-all : (k : ℕ) (z : ℤ) → passed (replicate k (unmarked z)) ≡ record { values = replicate k z; mark = false }
+passed-all zero z = refl
+passed-all (suc k) z = ap (λ (p : Passed). record { values = z ∷ p .values; mark = p .mark }) (passed-all k z)
+
+module _ (n : Side) (m : ℕ) (d : ℤ) (d-inside : outside d (low m) (high m) ≡ false) where
+  -- 181d + 128 >> 8
+  abbrev level : ℤ
+  level = round2 (d *ℤ pos 181) 8
+
+  -- for either meaning of a mark
+  dc-stepped : (keeps : Bool → Bool → Bool) → keeps false false ≡ false → stepped keeps n m (tab (len n) (only d)) ≡ replicate (len n) (unmarked level)
+  dc-stepped keeps quiet =
+      ap (dct (marked keeps (low m) (high m)) (bits n)) (first-only n d)
+      ∙ Known.dc keeps quiet (low m) (high m) d (zero-inside m) (ap (λ (z : ℤ). outside z (low m) (high m)) (by-181 d) ∙ scaled-inside m d d-inside) n
+      ∙ ap (λ (z : ℤ). replicate (len n) (unmarked z)) (by-181 d)
+
+  pub dc-pass : pass Dct n m (tab (len n) (only d)) ≡ record { values = replicate (len n) level; mark = false }
+  unfolding pass
+  dc-pass = ap passed (dc-stepped stored-only refl) ∙ passed-all (len n) level
+
+  pub dc-unclipped : clip-acts Dct n m (tab (len n) (only d)) ≡ false
+  unfolding clip-acts
+  dc-unclipped = ap (λ (p : Passed). p .mark) (ap passed (dc-stepped all-along refl) ∙ passed-all (len n) level)
+
+-- ---- nothing at all
+
+abbrev pub zeros : ℕ → List ℤ
+zeros n = tab n (λ i. pos 0)
+
+only-zero : (n : ℕ) → zeros n ≡ tab n (only (pos 0))
+only-zero n = tab-ext n (λ i. pos 0) (only (pos 0)) (λ i l. elim i [ zero ↦ refl | suc j ↦ refl ])
+
+identity-zero : (n : Side) → identity n (pos 0) ≡ pos 0
+unfolding identity round2 _>>_
+identity-zero of4 = refl
+identity-zero of8 = refl
+identity-zero of16 = refl
+identity-zero of32 = refl
+
+identity-at : (n : Side) (xs : List ℤ) (i : ℕ) → at (map (identity n) xs) i ≡ identity n (at xs i)
+identity-at n xs i = ap (getD (map (identity n) xs) i) (sym (identity-zero n)) ∙ map-at (identity n) xs i (pos 0)
+
+zero-at : (k x : ℕ) → at (zeros k) x ≡ pos 0
+zero-at zero x = refl
+zero-at (suc k) zero = refl
+zero-at (suc k) (suc x) = zero-at k x
+
+wht-zero : wht (pos 0) (pos 0) (pos 0) (pos 0) ≡ zeros 4
+unfolding wht _>>_
+wht-zero = refl
+
+module _ (n : Side) (m : ℕ) where
+  dct-zero : pass Dct n m (zeros (len n)) ≡ record { values = zeros (len n); mark = false }
+  unfolding round2 _>>_
+  dct-zero =
+      ap (pass Dct n m) (only-zero (len n)) ∙ dc-pass n m (pos 0) (zero-inside m)
+      ∙ ap (λ (xs : List ℤ). record { values = xs; mark = false }) (replicate-tab (len n) (pos 0))
+
+  pub zero-pass : (k : Kind) (x : ℕ) → at (pass k n m (zeros (len n)) .values) x ≡ pos 0
+  unfolding pass
+  zero-pass Dct x = ap (λ (p : Passed). at (p .values) x) dct-zero ∙ zero-at (len n) x
+  zero-pass Identity x = identity-at n (zeros (len n)) x ∙ ap (identity n) (zero-at (len n) x) ∙ identity-zero n
+  zero-pass Wht x =
+      let z = zero-at (len n) in
+      (λ i. at (wht (z 0 i) (z 1 i) (z 2 i) (z 3 i)) x) ∙ ap (λ (xs : List ℤ). at xs x) wht-zero ∙ zero-at 4 x
+
+  pub zero-unmarked : (k : Kind) → pass k n m (zeros (len n)) .mark ≡ false
+  unfolding pass
+  zero-unmarked Dct = ap (λ (p : Passed). p .mark) dct-zero
+  zero-unmarked Identity = refl
+  zero-unmarked Wht = refl
+
+-- ---- the specification
+
+-- section 7.13.2 by kind
+abbrev pub av1-pass : Kind → Side → List ℤ → List ℤ
+av1-pass Dct n xs = av1-dct n xs
+av1-pass Identity n xs = map (av1-identity n) xs
+av1-pass Wht n xs = av1-wht xs
+
+identity-one : (n : Side) (v : ℤ) → identity n v ≡ av1-identity n v
+unfolding identity Rattle.av1.specs.Passes.av1-identity
+identity-one of4 v =
+    let q = round2 (v *ℤ pos 1697) 12 in
+    let f = round-floor (v *ℤ pos 1697) 11 in
+    let r = scaled v 1697 2048 in
+    let s = scaled v 5793 2048 in
+    let t = rep-add (rep-self v) (rep-self q) in
+    floor-one (v *ℤ pos 5793 +ℤ pos 2048) 4096 (v +ℤ q) (round2 (v *ℤ pos 5793) 12)
+    (record { low = omega (arith, f .low, r .rep, s .rep, t .rep); high = omega (arith, f .high, r .rep, s .rep, t .rep) })
+    (round-floor (v *ℤ pos 5793) 11)
+identity-one of8 v = refl
+identity-one of16 v =
+    let q = round2 (v *ℤ pos 1697) 11 in
+    let f = round-floor (v *ℤ pos 1697) 10 in
+    let r = scaled v 1697 1024 in
+    let s = scaled v 11586 2048 in
+    let t = rep-add (rep-mul (rep-self v) (rep-self (pos 2))) (rep-self q) in
+    floor-one (v *ℤ pos 11586 +ℤ pos 2048) 4096 (v *ℤ pos 2 +ℤ q) (round2 (v *ℤ pos 11586) 12)
+    (record { low = omega (arith, f .low, r .rep, s .rep, t .rep); high = omega (arith, f .high, r .rep, s .rep, t .rep) })
+    (round-floor (v *ℤ pos 11586) 11)
+identity-one of32 v = refl
+
+module _ (n : Side) (m : ℕ) (xs : List ℤ) where
+  -- on every input
+  pub identity-av1 : pass Identity n m xs .values ≡ map (av1-identity n) xs
+  unfolding pass
+  identity-av1 = map-ext (identity n) (av1-identity n) (identity-one n) xs
+
+  pub wht-av1 : pass Wht n m xs .values ≡ av1-wht xs
+  unfolding pass wht Rattle.av1.specs.Passes.av1-wht
+  wht-av1 = refl
+
+  dct-values : pass Dct n m xs .values ≡ dct (clipped (low m) (high m)) (bits n) xs
+  unfolding pass
+  dct-values = marked-values (low m) (high m) stored-only (bits n) xs
+
+  -- where no clip inside acts
+  pub pass-av1 : (k : Kind) → clip-acts k n m xs ≡ false → pass k n m xs .values ≡ av1-pass k n xs
+  unfolding clip-acts
+  pass-av1 Dct e = dct-values ∙ unclipped (low m) (high m) (bits n) xs e
+  pass-av1 Identity e = identity-av1
+  pass-av1 Wht e = wht-av1
+
+-- ---- how large, and how many
+
+len-power : (n : Side) → 2 ^ bits n ≡ len n
+len-power of4 = refl
+len-power of8 = refl
+len-power of16 = refl
+len-power of32 = refl
+
+module _ {A : Type 0} (𝓐 : Alg A) where
+  step-length : (s : Step) (xs : List A) → length (step 𝓐 s xs) ≡ length xs
+  step-length (B a b c s false) xs = simp length-set
+  step-length (B a b c s true) xs = simp length-set
+  step-length (H a b) xs = simp length-set
+
+  run-length : (ss : List Step) (xs : List A) → length (run 𝓐 ss xs) ≡ length xs
+  run-length [] xs = refl
+  run-length (s ∷ ss) xs = run-length ss (step 𝓐 s xs) ∙ step-length s xs
+
+  dct-length : (n : Side) (xs : List A) → length (dct 𝓐 (bits n) xs) ≡ len n
+  dct-length n xs = run-length (steps (bits n)) (permuted 𝓐 (bits n) xs) ∙ tab-length (2 ^ bits n) (λ i. getD xs (brev (bits n) i) (𝓐 .none)) ∙ len-power n
+
+identity-small : (n : Side) (v : ℤ) (k : ℕ) → natAbs v ≤ k → natAbs (identity n v) ≤ 5 * k + 2
+unfolding identity round2 _>>_
+identity-small of4 v k h = le-trans (bound (v ∷ []) (k ∷ []) (h, tt) (var 0 ⊕ (var 0 ⊛ lit (pos 1697) ⊕ lit (pos 2048) ≫ 12))) (omega arith)
+identity-small of8 v k h = le-trans (bound (v ∷ []) (k ∷ []) (h, tt) (var 0 ⊛ lit (pos 2))) (omega arith)
+identity-small of16 v k h = le-trans (bound (v ∷ []) (k ∷ []) (h, tt) (var 0 ⊛ lit (pos 2) ⊕ (var 0 ⊛ lit (pos 1697) ⊕ lit (pos 1024) ≫ 11))) (omega arith)
+identity-small of32 v k h = le-trans (bound (v ∷ []) (k ∷ []) (h, tt) (var 0 ⊛ lit (pos 4))) (omega arith)
+
+-- the WHT's steps and what it stores, of a, b, c, d
+abbrev t4 : E
+t4 = var 0 ⊕ var 1 ⊝ (var 2 ⊝ var 3) ≫ 1
+
+wht-small : (a b c d : ℤ) (k : ℕ) → Within (a ∷ b ∷ c ∷ d ∷ []) (k ∷ k ∷ k ∷ k ∷ []) → (i : ℕ) → natAbs (at (wht a b c d) i) ≤ 5 * k + 2
+unfolding wht _>>_
+wht-small a b c d k h zero = le-trans (bound (a ∷ b ∷ c ∷ d ∷ []) (k ∷ k ∷ k ∷ k ∷ []) h (var 0 ⊕ var 1 ⊝ (t4 ⊝ var 3))) (omega arith)
+wht-small a b c d k h (suc zero) = le-trans (bound (a ∷ b ∷ c ∷ d ∷ []) (k ∷ k ∷ k ∷ k ∷ []) h (t4 ⊝ var 3)) (omega arith)
+wht-small a b c d k h (suc (suc zero)) = le-trans (bound (a ∷ b ∷ c ∷ d ∷ []) (k ∷ k ∷ k ∷ k ∷ []) h (t4 ⊝ var 1)) (omega arith)
+wht-small a b c d k h (suc (suc (suc zero))) = le-trans (bound (a ∷ b ∷ c ∷ d ∷ []) (k ∷ k ∷ k ∷ k ∷ []) h (var 2 ⊝ var 3 ⊕ (t4 ⊝ var 1))) (omega arith)
+wht-small a b c d k h (suc (suc (suc (suc i)))) = omega arith
+
+module _ (n : Side) (m : ℕ) (xs : List ℤ) where
+  -- every value that a DCT stores lies in the range
+  pub dct-in-range : (i : ℕ) → outside (at (pass Dct n m xs .values) i) (low m) (high m) ≡ false
+  unfolding pass round2 _>>_
+  dct-in-range i =
+      let input : ℕ → Marked = λ i. getD (map unmarked xs) (brev (bits n) i) (unmarked (pos 0)) in
+      let after : ℕ → List Marked = λ k. run (marked stored-only (low m) (high m)) (steps (bits n)) (tab k input) in
+      ap (λ (z : ℤ). outside z (low m) (high m)) (map-at (λ (u : Marked). u .v) (after (2 ^ bits n)) i (unmarked (pos 0)))
+      ∙ ap (λ (k : ℕ). outside (getD (after k) i (unmarked (pos 0)) .v) (low m) (high m)) (len-power n)
+      ∙ Known.in-range stored-only refl (low m) (high m) (pos 0) (zero-inside m) (zero-inside m) n input i
+
+  -- what a pass leaves of numbers up to k, with a range up to k
+  pub pass-small : (kind : Kind) (k : ℕ) → m ≤ k → ((i : ℕ) → natAbs (at xs i) ≤ k) → (i : ℕ) → natAbs (at (pass kind n m xs .values) i) ≤ 5 * k + 2
+  unfolding pass
+  pass-small Dct k l h i = le-trans (inside-abs m _ (dct-in-range i)) (omega arith)
+  pass-small Identity k l h i = subst⁻¹ (λ (z : ℤ). natAbs z ≤ 5 * k + 2) (identity-at n xs i) (identity-small n (at xs i) k (h i))
+  pass-small Wht k l h i = wht-small (at xs 0) (at xs 1) (at xs 2) (at xs 3) k (h 0, (h 1, (h 2, (h 3, tt)))) i
+
+  -- the WHT has one length
+  abbrev pub left : Kind → ℕ
+  left Dct = len n
+  left Identity = len n
+  left Wht = 4
+
+  pub pass-length : (kind : Kind) → length xs ≡ len n → length (pass kind n m xs .values) ≡ left kind
+  unfolding pass wht
+  pass-length Dct e = map-length (λ (u : Marked). u .v) (stepped stored-only n m xs) ∙ dct-length (marked stored-only (low m) (high m)) n (map unmarked xs)
+  pass-length Identity e = map-length (identity n) xs ∙ e
+  pass-length Wht e = refl

@@ -1,0 +1,124 @@
+-- Reading and writing the elements 0, s, 2s, .. of a list, once over the count.
+use mathlib.Core.Path.{_≡_, refl, sym, ap, _∙_, subst}
+use mathlib.Core.Logic.{_≢_}
+use mathlib.Core.Bool.{Bool, true, false, _&&_}
+use mathlib.Core.List.{List, [], _∷_, _++_, map}
+use Prim.Native.Nat.{ℕ, zero, suc, _+_, _*_, _-_, _/_, _≤_, _<_}
+use native.Mathlib.Nat.{eq-of-mul-eq-mul-right, mul-le-mul-right, lt-of-le-of-lt}
+use native.Mathlib.Omega.{arith}
+use lib.IntN.{ℤ, pos}
+use lib.ListN.{getD, set, length, replicate, length-set}
+use lib.Seq.{getD-set-same, getD-set-other}
+use lib.Dec.{T, ltb, ltb→lt, leb, leb→le}
+use borrow.Author.Tests.{ltb-false, leb-false}
+use mir.Facts.{and-yes}
+use Rattle.whole.specs.Lists.{at, tab}
+use Rattle.av1.specs.Sides.{Side, of4, of8, of16, of32, len}
+use Rattle.itx_1d.specs.Calls.{put}
+use Rattle.itx_1d.specs.Inner.{sided, revs, source, sources-below}
+
+-- ---- the lengths
+
+-- what holds of the four lengths holds of n
+pub of-length : (P : ℕ → Type 0) → ((k : Side) → P (len k)) → (n : ℕ) → len (sided n) ≡ n → P n
+of-length P p n e = subst P e (p (sided n))
+
+below-32 : (k : Side) → T (leb (len k) 32)
+below-32 of4 = tt
+below-32 of8 = tt
+below-32 of16 = tt
+below-32 of32 = tt
+
+pub at-most-32 : (n : ℕ) → len (sided n) ≡ n → n ≤ 32
+at-most-32 n e = leb→le n 32 (of-length (λ k. T (leb k 32)) below-32 n e)
+
+some-length : (k : Side) → T (ltb 0 (len k))
+some-length of4 = tt
+some-length of8 = tt
+some-length of16 = tt
+some-length of32 = tt
+
+pub not-0 : (n : ℕ) → len (sided n) ≡ n → 0 < n
+not-0 n e = ltb→lt 0 n (of-length (λ k. T (ltb 0 k)) some-length n e)
+
+all-below : (k : Side) → T (sources-below (len k) (len k))
+all-below of4 = tt
+all-below of8 = tt
+all-below of16 = tt
+all-below of32 = tt
+
+-- the last element is in the list, so all are
+pub in-reach : (c : List ℤ) (n s : ℕ) → leb (length c) ((n - 1) * s) ≡ false → (j : ℕ) → j < n → j * s < length c
+in-reach c n s e j h =
+    let p : j ≤ n - 1 = omega arith in
+    lt-of-le-of-lt (mul-le-mul-right s p) (leb-false (length c) ((n - 1) * s) e)
+
+-- ---- an index below suc k is k, or below k
+
+last-or-less : (i k : ℕ) (P : ℕ → Type 0) → i < suc k → P k → (i < k → P i) → P i
+last-or-less i k P h p f = go (ltb i k) refl
+  where
+    go : (b : Bool) → ltb i k ≡ b → P i
+    go true e = f (ltb→lt i k (subst T (sym e) tt))
+    go false e = subst P (omega (arith, ltb-false i k e)) p
+
+-- where element i of the work array comes from
+pub record Source (n i : ℕ) : Type 0 where
+  pub in-table : i * (32 / n) < 32
+  pub below : source n i < n
+
+source-of : (n k : ℕ) → T (sources-below n k) → (i : ℕ) → i < k → Source n i
+source-of n zero t i h = let f : ⊥ = omega arith in absurd f
+source-of n (suc k) t i h =
+    let q = and-yes (ltb (k * (32 / n)) 32 && ltb (source n k) n) (sources-below n k) t in
+    let r = and-yes (ltb (k * (32 / n)) 32) (ltb (source n k) n) (q .0) in
+    last-or-less i k (Source n) h (record { in-table = ltb→lt _ 32 (r .0); below = ltb→lt _ n (r .1) }) (source-of n k (q .1) i)
+
+pub source-at : (n : ℕ) → len (sided n) ≡ n → (i : ℕ) → i < n → Source n i
+source-at n e i h = source-of n n (of-length (λ k. T (sources-below k k)) all-below n e) i h
+
+-- one element more in front of the zeros
+set-tab : (i : ℕ) (f : ℕ → ℤ) (k : ℕ) → set (tab i f ++ replicate (suc k) (pos 0)) i (f i) ≡ tab (suc i) f ++ replicate k (pos 0)
+set-tab zero f k = refl
+set-tab (suc i) f k = ap (λ (l : List ℤ). f zero ∷ l) (set-tab i (λ j. f (suc j)) k)
+
+pub one-more : (i : ℕ) (f : ℕ → ℤ) → i < 32 → set (tab i f ++ replicate (32 - i) (pos 0)) i (f i) ≡ tab (i + 1) f ++ replicate (32 - (i + 1)) (pos 0)
+one-more i f h =
+    let p : 32 - i ≡ suc (31 - i) = omega arith in
+    let q : suc i ≡ i + 1 = omega arith in
+    let r : 31 - i ≡ 32 - (i + 1) = omega arith in
+    (λ j. set (tab i f ++ replicate (p j) (pos 0)) i (f i)) ∙ set-tab i f (31 - i) ∙ (λ j. tab (q j) f ++ replicate (r j) (pos 0))
+
+-- ---- what was put is read back, and nothing else changes
+
+pub length-put : (c : List ℤ) (s : ℕ) (vs : List ℤ) (k : ℕ) → length (put c s vs k) ≡ length c
+unfolding put
+length-put c s vs zero = refl
+length-put c s vs (suc k) = length-set (put c s vs k) (k * s) _ ∙ length-put c s vs k
+
+module _ (c : List ℤ) (s : ℕ) (vs : List ℤ) (some : 0 < s) where
+  pub kept : (k i : ℕ) → ((j : ℕ) → j < k → i ≢ j * s) → at (put c s vs k) i ≡ at c i
+  unfolding put
+  kept zero i h = refl
+  kept (suc k) i h = getD-set-other (put c s vs k) (k * s) i (at vs k) (pos 0) (h k (omega arith)) ∙ kept k i (λ j l. h j (omega arith))
+
+  apart : (i k : ℕ) → i < k → k * s ≡ i * s → ⊥
+  apart i k h e = let q = eq-of-mul-eq-mul-right s some k i e in omega arith
+
+  -- an element that is still to be put
+  pub waits : (k : ℕ) → at (put c s vs k) (k * s) ≡ at c (k * s)
+  waits k = kept k (k * s) (λ j h e. apart j k h e)
+
+  pub put-at : (k i : ℕ) → i < k → ((j : ℕ) → j < k → j * s < length c) → at (put c s vs k) (i * s) ≡ at vs i
+  unfolding put
+  put-at zero i h l = let f : ⊥ = omega arith in absurd f
+  put-at (suc k) i h l =
+      last-or-less i k (λ (n : ℕ). at (put c s vs (suc k)) (n * s) ≡ at vs n) h
+      (getD-set-same (put c s vs k) (k * s) (at vs k) (pos 0) (subst (λ (n : ℕ). k * s < n) (sym (length-put c s vs k)) (l k (omega arith))))
+      (λ g. getD-set-other (put c s vs k) (k * s) (i * s) (at vs k) (pos 0) (λ e. apart i k g (sym e)) ∙ put-at k i g (λ j u. l j (omega arith)))
+
+-- element i of a list that is made place by place
+pub at-map : (f : ℤ → ℤ) (n : ℕ) (g : ℕ → ℤ) (i : ℕ) → i < n → at (map f (tab n g)) i ≡ f (g i)
+at-map f zero g i h = let x : ⊥ = omega arith in absurd x
+at-map f (suc n) g zero h = refl
+at-map f (suc n) g (suc i) h = at-map f n (λ j. g (suc j)) i (omega arith)

@@ -1,0 +1,58 @@
+-- `itx_1d::check_place` meets its contract.
+use mathlib.Core.Path.{_≡_, refl, sym, _∙_}
+use mathlib.Core.Bool.{Bool, true, false}
+use Prim.Native.Nat.{ℕ, _+_, _-_, _*_, _/_, _≤_, _<_}
+use native.Mathlib.Nat.{le-div-iff-mul-le, div-lt-iff-lt-mul}
+use native.Mathlib.Omega.{arith}
+use lib.Dec.{eqb, leb}
+use borrow.Author.Needs.{needs}
+use borrow.Author.Tests.{eq-eqb, ne-eqb, le-leb, lt-leb}
+use Rattle.itx_1d.specs.Inner.{after, place-check}
+use Rattle.itx_1d.proofs.Checks.{handed-on, went-on}
+use Rattle.itx_1d.proofs.check_place.Statement.{statement}
+use Rattle.itx_1d.proofs.check_place.Tie as tie
+
+-- what follows a check that went well, by the two tests
+decided : (e : tie.After-enum-told) (p q : Bool) → let s = e .before .before in eqb (s .args .stride) 0 ≡ p → leb (s .args .length) ((s .args .n - 1) * s .args .stride) ≡ q
+    → place-check p q ≡ after (s .args .before) (place-check (eqb (s .args .stride) 0) (leb (s .args .length) ((s .args .n - 1) * s .args .stride)))
+decided e p q h k = (λ i. place-check (sym h i) (sym k i)) ∙ went-on _ (e .enum-told .given .1)
+
+returns-2 : tie.Need-returns-2
+returns-2 c = decided (c .before) true _ (eq-eqb _ 0 (c .if1 .taken)) refl
+
+returns-3 : tie.Need-returns-3
+returns-3 c =
+    let e = c .before .before in
+    let s = e .before .before in
+    let short : s .args .length ≤ (s .args .n - 1) * s .args .stride = omega arith in
+    decided e false true (ne-eqb _ 0 (c .before .if1 .left)) (le-leb _ _ short)
+
+returns-4 : tie.Need-returns-4
+returns-4 c =
+    let e = c .before .before .before in
+    let s = e .before .before in
+    let some : 0 < s .args .stride = omega (arith, c .before .before .if1 .left) in
+    let short : s .args .length ≤ (s .args .n - 1) * s .args .stride = omega (arith, div-lt-iff-lt-mul some .0 (c .if3 .taken), c .before .if2 .left) in
+    decided e false true (ne-eqb _ 0 (c .before .before .if1 .left)) (le-leb _ _ short)
+
+returns-5 : tie.Need-returns-5
+returns-5 c =
+    let e = c .before .before .before in
+    let s = e .before .before in
+    let some : 0 < s .args .stride = omega (arith, c .before .before .if1 .left) in
+    let long : (s .args .n - 1) * s .args .stride < s .args .length = omega (arith, le-div-iff-mul-le some .0 (c .if3 .left), c .before .if2 .left) in
+    decided e false false (ne-eqb _ 0 (c .before .before .if1 .left)) (lt-leb _ _ long)
+
+pub check-place-spec : {M : Type 1} → statement M
+check-place-spec =
+    tie.close
+    (tie.spec
+    (λ c. search needs)
+    (λ c. handed-on (c .before .args .before) _ (c .match .keys2))
+    returns-2
+    returns-3
+    (λ c. search needs)
+    (λ c. search needs)
+    (λ c. search needs)
+    returns-4
+    returns-5)

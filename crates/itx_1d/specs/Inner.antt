@@ -1,0 +1,127 @@
+-- What the inner functions ask and give: the public calls' definitions are in Calls.
+use mathlib.Core.Path.{_≡_}
+use mathlib.Core.Bool.{Bool, true, false, cond, _&&_}
+use mathlib.Core.List.{List, [], _∷_, _++_, map}
+use mathlib.Core.Option.{Option, none, some}
+use Prim.Native.Nat.{ℕ, zero, suc, _*_, _-_, _/_, _≤_, _<_}
+use lib.Dec.{T, eqb, leb, ltb}
+use lib.IntN.{ℤ, pos, natAbs}
+use lib.ListN.{getD, length, replicate}
+use Rattle.whole.specs.Numbers.{outside, low, high}
+use Rattle.whole.specs.Lists.{at, tab, first}
+use Rattle.av1.specs.Sides.{Side, of4, of8, of16, of32, len, bits}
+use Rattle.dct.specs.Stages.{Through}
+use Rattle.itx_1d.specs.Passes.{Passed, identity, pass}
+use Rattle.itx_1d.specs.Calls.{taken, put}
+use Rattle.itx_1d.specs.declared.Kind.{Kind}
+use Rattle.itx_1d.specs.declared.Kind.the-variants.{Dct, Identity, Wht}
+use Rattle.itx_1d.specs.declared.Found.{Found}
+use Rattle.itx_1d.specs.declared.Found.the-variants.{At, Nothing}
+use Rattle.itx_1d.specs.declared.Pass.{Pass}
+use Rattle.itx_1d.specs.declared.Pass.the-variants.{Done, Range, Stride, Short, Element}
+
+-- the length n as a side, where it is one
+abbrev pub sided : ℕ → Side
+sided n = cond (eqb n 4) of4 (cond (eqb n 8) of8 (cond (eqb n 16) of16 of32))
+
+-- the code's table: 5 bits in reverse order. Of 2 ^ n elements, element i stands at entry i * 2 ^ (5 - n).
+abbrev pub revs : List ℕ
+revs = 0 ∷ 16 ∷ 8 ∷ 24 ∷ 4 ∷ 20 ∷ 12 ∷ 28 ∷ 2 ∷ 18 ∷ 10 ∷ 26 ∷ 6 ∷ 22 ∷ 14 ∷ 30 ∷ 1 ∷ 17 ∷ 9 ∷ 25 ∷ 5 ∷ 21 ∷ 13 ∷ 29 ∷ 3 ∷ 19 ∷ 11 ∷ 27 ∷ 7 ∷ 23 ∷ 15 ∷ 31 ∷ []
+
+abbrev pub source : ℕ → ℕ → ℕ
+source n i = getD revs (i * (32 / n)) 0
+
+-- every source of n elements is below n
+abbrev pub sources-below : ℕ → ℕ → Bool
+sources-below n zero = true
+sources-below n (suc k) = (ltb (k * (32 / n)) 32 && ltb (source n k) n) && sources-below n k
+
+-- the elements 0, s, 2s, .. in bit-reversed order, zeros after them
+abbrev pub gathered : List ℤ → ℕ → ℕ → List ℤ
+gathered c s n = tab n (λ i. at c (source n i * s)) ++ replicate (32 - n) (pos 0)
+
+-- the n elements lie in the list
+pub record Reaches (c : List ℤ) (s n : ℕ) : Type 0 where
+  pub is-length : len (sided n) ≡ n
+  pub some-stride : 0 < s
+  pub inside : (j : ℕ) → j < n → j * s < length c
+
+pub record Passable (c : List ℤ) (s n : ℕ) (most : ℕ) : Type 0 where
+  pub reaches : Reaches c s n
+  pub small : (j : ℕ) → j < n → natAbs (at c (j * s)) ≤ most
+
+-- the range -m .. m - 1
+pub record Ranged (lo hi : ℤ) : Type 0 where
+  pub low-is : lo ≡ low (natAbs lo)
+  pub high-is : hi ≡ high (natAbs lo)
+  pub small : natAbs lo ≤ 524288
+
+-- what a pass with the range -m .. m - 1 makes of the list c
+pub record PassIs (kind : Kind) (n s m : ℕ) (c d : List ℤ) (r : Bool) : Type 0 where
+  pub elements : d ≡ put c s (pass kind (sided n) m (taken c s n) .values) n
+  pub mark : r ≡ pass kind (sided n) m (taken c s n) .mark
+
+-- the identity of n points on the list
+abbrev pub identical : List ℤ → ℕ → ℕ → List ℤ
+identical c s n = put c s (map (identity (sided n)) (taken c s n)) n
+
+-- "goes on only if that was an acceptance"
+abbrev pub after : Pass → Pass → Pass
+after (Done b) q = q
+after Range q = Range
+after Stride q = Stride
+after Short q = Short
+after (Element i) q = Element i
+
+-- the checks: number 11; 12 and 13; 14
+abbrev pub range-check : Bool → Pass
+range-check t = cond t Range (Done false)
+
+abbrev pub place-check : Bool → Bool → Pass
+place-check s t = cond s Stride (cond t Short (Done false))
+
+abbrev pub element-check : Option ℕ → Pass
+element-check none = Done false
+element-check (some i) = Element i
+
+abbrev pub found : Found → Option ℕ
+found (At i) = some i
+found Nothing = none
+
+-- what the check of the elements asks: that the checks before it found the elements in the slice, if they went well
+pub record Open (before : Pass) (c : List ℤ) (n s : ℕ) : Type 0 where
+  pub inside : (b : Bool) → before ≡ Done b → (j : ℕ) → j < n → j * s < length c
+
+abbrev pub checked : Pass → List ℤ → ℕ → ℕ → ℤ → ℤ → Pass
+checked before c n s lo hi = after (after before (place-check (eqb s 0) (leb (length c) ((n - 1) * s)))) (element-check (first n (λ i. outside (at c (i * s)) lo hi)))
+
+-- the largest element that a pass takes, and the length of a WHT
+abbrev pub most : Kind → ℕ
+most Dct = 524288
+most Identity = 524288
+most Wht = 16777216
+
+abbrev pub Lined : Kind → ℕ → Type 0
+Lined Dct n = Unit {0}
+Lined Identity n = Unit {0}
+Lined Wht n = n ≡ 4
+
+abbrev pub Limited : Kind → ℤ → ℤ → Type 0
+Limited Dct lo hi = Ranged lo hi
+Limited Identity lo hi = Unit {0}
+Limited Wht lo hi = Unit {0}
+
+pub record Passing (kind : Kind) (c : List ℤ) (n s : ℕ) (lo hi : ℤ) : Type 0 where
+  pub lined : Lined kind n
+  pub limited : Limited kind lo hi
+  pub able : Passable c s n (most kind)
+
+-- a call that takes a range: a DCT or an identity, of one of the four lengths
+abbrev pub takes-range : Kind → Bool
+takes-range Dct = true
+takes-range Identity = true
+takes-range Wht = false
+
+pub record Callable (kind : Kind) (n : ℕ) : Type 0 where
+  pub range : T (takes-range kind)
+  pub is-length : len (sided n) ≡ n

@@ -1,0 +1,51 @@
+-- One-dimensional passes: document 01, "One-dimensional passes".
+use mathlib.Core.Bool.{Bool, false}
+use mathlib.Core.List.{List, [], _∷_, map}
+use Prim.Native.Nat.{ℕ}
+use lib.IntN.{ℤ, pos, _+ℤ_, _-ℤ_, _*ℤ_}
+use Rattle.whole.specs.Numbers.{_>>_, round2, low, high}
+use Rattle.whole.specs.Lists.{at}
+use Rattle.av1.specs.Sides.{Side, of4, of8, of16, of32, bits}
+use Rattle.av1.specs.Network.{dct}
+use Rattle.av1.specs.Values.{Marked, unmarked, marked, values, marks, stored-only, all-along}
+use Rattle.itx_1d.specs.declared.Kind.{Kind}
+use Rattle.itx_1d.specs.declared.Kind.the-variants.{Dct, Identity, Wht}
+
+-- what a pass leaves, and its mark
+pub record Passed : Type 0 where
+  pub values : List ℤ
+  pub mark : Bool
+
+-- the DCT's steps on xs, with the crate's clips to -m .. m - 1; `keeps` says what a mark keeps
+abbrev pub stepped : (Bool → Bool → Bool) → Side → ℕ → List ℤ → List Marked
+stepped keeps n m xs = dct (marked keeps (low m) (high m)) (bits n) (map unmarked xs)
+
+-- "identity4: v + (1697v + 2048 >> 12). identity8: 2v. identity16: 2v + (1697v + 1024 >> 11). identity32: 4v."
+unfoldable pub identity : Side → ℤ → ℤ
+identity of4 v = v +ℤ round2 (v *ℤ pos 1697) 12
+identity of8 v = v *ℤ pos 2
+identity of16 v = v *ℤ pos 2 +ℤ round2 (v *ℤ pos 1697) 11
+identity of32 v = v *ℤ pos 4
+
+-- "t0 = a+b, t2 = c-d, t4 = t0-t2 >> 1, t3 = t4-d, t1 = t4-b; stored t0-t3, t3, t1, t2+t1"
+unfoldable pub wht : ℤ → ℤ → ℤ → ℤ → List ℤ
+wht a b c d =
+    let t0 = a +ℤ b in
+    let t2 = c -ℤ d in
+    let t4 = t0 -ℤ t2 >> 1 in
+    let t3 = t4 -ℤ d in
+    let t1 = t4 -ℤ b in
+    (t0 -ℤ t3) ∷ t3 ∷ t1 ∷ (t2 +ℤ t1) ∷ []
+
+-- A pass by kind and length, with the range -m .. m - 1. The mark of a DCT: "some value that a DCT pass leaves in the block was changed by the
+-- clip that stored it"; "WHT and identity never raise it".
+unfoldable pub pass : Kind → Side → ℕ → List ℤ → Passed
+pass Dct n m xs = let out = stepped stored-only n m xs in record { values = values out; mark = marks out }
+pass Identity n m xs = record { values = map (identity n) xs; mark = false }
+pass Wht n m xs = record { values = wht (at xs 0) (at xs 1) (at xs 2) (at xs 3); mark = false }
+
+-- whether a clip inside a pass changes a value, at any step
+unfoldable pub clip-acts : Kind → Side → ℕ → List ℤ → Bool
+clip-acts Dct n m xs = marks (stepped all-along n m xs)
+clip-acts Identity n m xs = false
+clip-acts Wht n m xs = false

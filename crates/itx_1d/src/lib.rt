@@ -1,0 +1,334 @@
+// The one-dimensional passes of src/itx_1d.rs: DCT, identity and WHT on elements 0, s, 2s, .. of a lent slice.
+ghost use mathlib.Core.Path.{_≡_};
+ghost use mathlib.Core.Bool as Bool;
+ghost use mathlib.Core.Option.{Option};
+ghost use Prim.Native.Nat.{ℕ, _+_, _*_, _-_, _≤_, _<_};
+ghost use lib.Dec.{T, eqb, leb};
+ghost use lib.IntN.{ℤ, natAbs};
+ghost use lib.ListN.{length};
+ghost use Rattle.whole.specs.Numbers as Numbers;
+ghost use Rattle.whole.specs.Lists.{at, first};
+ghost use Rattle.av1.specs.Sides.{of4, of8, of16, of32, len, bits};
+ghost use Rattle.dct.specs.Stages as Stages;
+ghost use Rattle.itx_1d.specs.Passes as Passes;
+ghost use Rattle.itx_1d.specs.Calls as Calls;
+ghost use Rattle.itx_1d.specs.Inner as Inner;
+use dct::dct4;
+use dct::dct8;
+use dct::dct16;
+use dct::dct32;
+use intops::outside;
+
+// What a pass does to a line of a block (document 01, "Sizes, types, depths").
+pub enum Kind {
+    Dct,
+    Identity,
+    Wht,
+}
+
+// What a public pass answers (document 01, "Numbers of refusal", 11 to 14).
+pub enum Pass {
+    Done(bool),
+    Range,
+    Stride,
+    Short,
+    Element(usize),
+}
+
+// What a search finds.
+enum Found {
+    At(usize),
+    Nothing,
+}
+
+const REV: [usize; 32] = [
+    0,
+    16,
+    8,
+    24,
+    4,
+    20,
+    12,
+    28,
+    2,
+    18,
+    10,
+    26,
+    6,
+    22,
+    14,
+    30,
+    1,
+    17,
+    9,
+    25,
+    5,
+    21,
+    13,
+    29,
+    3,
+    19,
+    11,
+    27,
+    7,
+    23,
+    15,
+    31,
+];
+
+// The work array of the DCTs. The crate runs the half in place at double stride; here the even inputs stand first.
+fn gather(c: &[i32], stride: usize, n: usize) -> [i32; 32]
+    requires { ⌜ Inner.Reaches (now c) stride n ⌝ }
+    ensures { λ r. ⌜ r ≡ Inner.gathered (now (c .entry)) stride n ⌝ }
+{
+    let m = 32 / n;
+    let mut t = [0i32; 32];
+    for i in 0..n {
+        let j = REV[i * m];
+        let v = c[j * stride];
+        t[i] = v;
+    }
+    t
+}
+
+fn scatter(c: &mut [i32], stride: usize, n: usize, t: [i32; 32])
+    requires { ⌜ Inner.Reaches (now c) stride n ⌝ }
+    ensures { λ _. ⌜ now (c .exit) ≡ Calls.put (now (c .entry)) stride t n ⌝ }
+{
+    for i in 0..n {
+        let v = t[i];
+        c[i * stride] = v;
+    }
+}
+
+// The DCT of n points on the work array.
+fn dct_of(t: &mut [i32; 32], n: usize, min: i32, max: i32) -> bool
+    requires { ⌜ Stages.Ready (now t) min max ⌝ }
+    ensures { λ r. ⌜ Stages.Through (bits (Inner.sided n) - 1) min max (now (t .entry)) (now (t .exit)) r ⌝ }
+{
+    match n {
+        4 => dct4(t, min, max),
+        8 => dct8(t, min, max),
+        16 => dct16(t, min, max),
+        _ => dct32(t, min, max),
+    }
+}
+
+fn dct(c: &mut [i32], n: usize, stride: usize, min: i32, max: i32) -> bool
+    requires { ⌜ Inner.Passable (now c) stride n 524288 × Inner.Ranged min max ⌝ }
+    ensures { λ r. ⌜ Inner.PassIs Kind.Dct n stride (natAbs min) (now (c .entry)) (now (c .exit)) r ⌝ }
+{
+    let mut t = gather(&*c, stride, n);
+    let mark = dct_of(&mut t, n, min, max);
+    scatter(&mut *c, stride, n, t);
+    mark
+}
+
+// One element of the identity of n points.
+fn identity_of(n: usize, v: i32) -> i32
+    requires { ⌜ natAbs v ≤ 524288 ⌝ }
+    ensures { λ r. ⌜ r ≡ Passes.identity (Inner.sided n) v ⌝ }
+{
+    match n {
+        4 => v + (v * 1697 + 2048 >> 12),
+        8 => v * 2,
+        16 => v * 2 + (v * 1697 + 1024 >> 11),
+        _ => v * 4,
+    }
+}
+
+fn identity(c: &mut [i32], n: usize, stride: usize)
+    requires { ⌜ Inner.Passable (now c) stride n 524288 ⌝ }
+    ensures { λ _. ⌜ now (c .exit) ≡ Inner.identical (now (c .entry)) stride n ⌝ }
+{
+    for i in 0..n {
+        let v = c[i * stride];
+        let u = identity_of(n, v);
+        c[i * stride] = u;
+    }
+}
+
+// rav1d_inv_wht4_1d_c.
+fn wht4(c: &mut [i32], stride: usize)
+    requires { ⌜ Inner.Passable (now c) stride 4 16777216 ⌝ }
+    ensures { λ _. ⌜ Inner.PassIs Kind.Wht 4 stride 0 (now (c .entry)) (now (c .exit)) Bool.false ⌝ }
+{
+    let in0 = c[0 * stride];
+    let in1 = c[1 * stride];
+    let in2 = c[2 * stride];
+    let in3 = c[3 * stride];
+    let t0 = in0 + in1;
+    let t2 = in2 - in3;
+    let t4 = t0 - t2 >> 1;
+    let t3 = t4 - in3;
+    let t1 = t4 - in1;
+    let o0 = t0 - t3;
+    let o3 = t2 + t1;
+    c[0 * stride] = o0;
+    c[1 * stride] = t3;
+    c[2 * stride] = t1;
+    c[3 * stride] = o3;
+}
+
+// Number 11.
+fn check_range(min: i32, max: i32) -> Pass
+    ensures { λ r. ⌜ r ≡ Inner.range-check (Calls.bad-range min max) ⌝ }
+{
+    if (min == -32768) & (max == 32767)
+        | (min == -131072) & (max == 131071)
+        | (min == -524288) & (max == 524287)
+    {
+        Pass::Done(false)
+    } else {
+        Pass::Range
+    }
+}
+
+// Numbers 12 and 13, after `before`.
+fn check_place(before: Pass, length: usize, n: usize, stride: usize) -> Pass
+    requires { ⌜ 0 < n ⌝ }
+    ensures { λ r. ⌜ r ≡ Inner.after before (Inner.place-check (eqb stride 0) (leb length ((n - 1) * stride))) ⌝ }
+{
+    let Pass::Done(_) = before else {
+        return before;
+    };
+    if stride == 0 {
+        return Pass::Stride;
+    }
+    // A multiple of the stride may not fit a word.
+    if length == 0 {
+        return Pass::Short;
+    }
+    if (length - 1) / stride < n - 1 {
+        return Pass::Short;
+    }
+    Pass::Done(false)
+}
+
+// The number of the first of the n elements that lies outside the range.
+fn first_outside(c: &[i32], n: usize, stride: usize, min: i32, max: i32) -> Found
+    requires { ⌜ ((j : ℕ) → j < n → j * stride < length (now c)) ⌝ }
+    ensures { λ r. ⌜ Inner.found r ≡ first n (λ i. Numbers.outside (at (now (c .entry)) (i * stride)) min max) ⌝ }
+{
+    for i in 0..n {
+        let v = c[i * stride];
+        if outside(v, min, max) {
+            return Found::At(i);
+        }
+    }
+    Found::Nothing
+}
+
+// Number 14, after `before`.
+fn check_elements(before: Pass, c: &[i32], n: usize, stride: usize, min: i32, max: i32) -> Pass
+    requires { ⌜ Inner.Open before (now c) n stride ⌝ }
+    ensures { λ r. ⌜ r ≡ Inner.after before (Inner.element-check (first n (λ i. Numbers.outside (at (now (c .entry)) (i * stride)) min max))) ⌝ }
+{
+    let Pass::Done(_) = before else {
+        return before;
+    };
+    let found = first_outside(c, n, stride, min, max);
+    match found {
+        Found::At(i) => Pass::Element(i),
+        Found::Nothing => Pass::Done(false),
+    }
+}
+
+// Numbers 12 to 14, after `before`.
+fn check(before: Pass, c: &[i32], n: usize, stride: usize, min: i32, max: i32) -> Pass
+    requires { ⌜ len (Inner.sided n) ≡ n ⌝ }
+    ensures { λ r. ⌜ r ≡ Inner.checked before (now (c .entry)) n stride min max ⌝ }
+{
+    let place = check_place(before, c.len(), n, stride);
+    check_elements(place, c, n, stride, min, max)
+}
+
+// A pass by kind and length, on elements that were checked: `Itx1dFn` and its choice in src/itx.rs.
+pub fn inv_1d(kind: Kind, c: &mut [i32], n: usize, stride: usize, min: i32, max: i32) -> bool
+    requires { ⌜ Inner.Passing kind (now c) n stride min max ⌝ }
+    ensures { λ r. ⌜ Inner.PassIs kind n stride (natAbs min) (now (c .entry)) (now (c .exit)) r ⌝ }
+{
+    match kind {
+        Kind::Dct => dct(c, n, stride, min, max),
+        Kind::Identity => {
+            identity(c, n, stride);
+            false
+        }
+        Kind::Wht => {
+            wht4(c, stride);
+            false
+        }
+    }
+}
+
+// A DCT or an identity with its checks.
+fn ranged(kind: Kind, c: &mut [i32], n: usize, stride: usize, min: i32, max: i32) -> Pass
+    requires { ⌜ Inner.Callable kind n ⌝ }
+    ensures { λ r. ⌜ Calls.Meets (Calls.ranged kind (Inner.sided n) (now (c .entry)) stride min max) r (now (c .exit)) ⌝ }
+{
+    let range = check_range(min, max);
+    let checked = check(range, &*c, n, stride, min, max);
+    let Pass::Done(_) = checked else {
+        return checked;
+    };
+    Pass::Done(inv_1d(kind, c, n, stride, min, max))
+}
+
+pub fn inv_dct4_1d(c: &mut [i32], stride: usize, min: i32, max: i32) -> Pass
+    ensures { λ r. ⌜ Calls.Meets (Calls.ranged Kind.Dct of4 (now (c .entry)) stride min max) r (now (c .exit)) ⌝ }
+{
+    ranged(Kind::Dct, c, 4, stride, min, max)
+}
+
+pub fn inv_dct8_1d(c: &mut [i32], stride: usize, min: i32, max: i32) -> Pass
+    ensures { λ r. ⌜ Calls.Meets (Calls.ranged Kind.Dct of8 (now (c .entry)) stride min max) r (now (c .exit)) ⌝ }
+{
+    ranged(Kind::Dct, c, 8, stride, min, max)
+}
+
+pub fn inv_dct16_1d(c: &mut [i32], stride: usize, min: i32, max: i32) -> Pass
+    ensures { λ r. ⌜ Calls.Meets (Calls.ranged Kind.Dct of16 (now (c .entry)) stride min max) r (now (c .exit)) ⌝ }
+{
+    ranged(Kind::Dct, c, 16, stride, min, max)
+}
+
+pub fn inv_dct32_1d(c: &mut [i32], stride: usize, min: i32, max: i32) -> Pass
+    ensures { λ r. ⌜ Calls.Meets (Calls.ranged Kind.Dct of32 (now (c .entry)) stride min max) r (now (c .exit)) ⌝ }
+{
+    ranged(Kind::Dct, c, 32, stride, min, max)
+}
+
+pub fn inv_identity4_1d(c: &mut [i32], stride: usize, min: i32, max: i32) -> Pass
+    ensures { λ r. ⌜ Calls.Meets (Calls.ranged Kind.Identity of4 (now (c .entry)) stride min max) r (now (c .exit)) ⌝ }
+{
+    ranged(Kind::Identity, c, 4, stride, min, max)
+}
+
+pub fn inv_identity8_1d(c: &mut [i32], stride: usize, min: i32, max: i32) -> Pass
+    ensures { λ r. ⌜ Calls.Meets (Calls.ranged Kind.Identity of8 (now (c .entry)) stride min max) r (now (c .exit)) ⌝ }
+{
+    ranged(Kind::Identity, c, 8, stride, min, max)
+}
+
+pub fn inv_identity16_1d(c: &mut [i32], stride: usize, min: i32, max: i32) -> Pass
+    ensures { λ r. ⌜ Calls.Meets (Calls.ranged Kind.Identity of16 (now (c .entry)) stride min max) r (now (c .exit)) ⌝ }
+{
+    ranged(Kind::Identity, c, 16, stride, min, max)
+}
+
+pub fn inv_identity32_1d(c: &mut [i32], stride: usize, min: i32, max: i32) -> Pass
+    ensures { λ r. ⌜ Calls.Meets (Calls.ranged Kind.Identity of32 (now (c .entry)) stride min max) r (now (c .exit)) ⌝ }
+{
+    ranged(Kind::Identity, c, 32, stride, min, max)
+}
+
+pub fn inv_wht4_1d(c: &mut [i32], stride: usize) -> Pass
+    ensures { λ r. ⌜ Calls.Meets (Calls.unranged (now (c .entry)) stride) r (now (c .exit)) ⌝ }
+{
+    let checked = check(Pass::Done(false), &*c, 4, stride, -16777216, 16777215);
+    let Pass::Done(_) = checked else {
+        return checked;
+    };
+    wht4(c, stride);
+    Pass::Done(false)
+}

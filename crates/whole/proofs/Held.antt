@@ -1,0 +1,42 @@
+-- A signed number that a local holds is read back as itself: facts of the numbers are facts of what is read.
+use mathlib.Core.Path.{_≡_, refl, sym, ap, _∙_, subst, subst⁻¹}
+use mathlib.Core.Bool.{Bool, true, false}
+use lib.Dec.{T, eqb, eqb→eq}
+use lib.IntN.{ℤ, pos, negsuc}
+use borrow.Author.Tests.{eq-eqb, ne-eqb}
+use mir.Syntax.{w32}
+use mir.Val.{SFits, toZ, ofZ}
+use mir.ValLaws.{toZ-ofZ}
+use Rattle.whole.specs.Numbers.{same}
+
+module _ {x : ℤ} (f : SFits w32 x) where
+  pub to1 : (P : ℤ → Type 0) → P x → P (toZ w32 (ofZ w32 x))
+  to1 P p = subst⁻¹ P (toZ-ofZ w32 x f) p
+
+pub to2 : (P : ℤ → ℤ → Type 0) {x y : ℤ} → SFits w32 x → SFits w32 y → P x y → P (toZ w32 (ofZ w32 x)) (toZ w32 (ofZ w32 y))
+to2 P {x} {y} f g p = to1 f (λ (u : ℤ). P u (toZ w32 (ofZ w32 y))) (to1 g (λ (u : ℤ). P x u) p)
+
+pub to4 : (P : ℤ → ℤ → ℤ → ℤ → Type 0) {x y z u : ℤ} → SFits w32 x → SFits w32 y → SFits w32 z → SFits w32 u → P x y z u
+    → P (toZ w32 (ofZ w32 x)) (toZ w32 (ofZ w32 y)) (toZ w32 (ofZ w32 z)) (toZ w32 (ofZ w32 u))
+to4 P {x} {y} {z} {u} f g h k p =
+    to2 (λ (a b : ℤ). P a b (toZ w32 (ofZ w32 z)) (toZ w32 (ofZ w32 u))) f g (to2 (λ (a b : ℤ). P x y a b) h k p)
+
+-- a test of the bits of two numbers that fit is a test of the numbers
+pub same-is : (x y : ℤ) → T (same x y) → x ≡ y
+same-is (pos a) (pos b) t = ap pos (eqb→eq a b t)
+same-is (pos a) (negsuc b) t = absurd t
+same-is (negsuc a) (pos b) t = absurd t
+same-is (negsuc a) (negsuc b) t = ap negsuc (eqb→eq a b t)
+
+same-self : (x : ℤ) → same x x ≡ true
+same-self (pos a) = eq-eqb a a refl
+same-self (negsuc a) = eq-eqb a a refl
+
+pub same-bits : (x y : ℤ) → SFits w32 x → SFits w32 y → eqb (ofZ w32 x) (ofZ w32 y) ≡ same x y
+same-bits x y f g = go (same x y) refl
+  where
+    go : (t : Bool) → same x y ≡ t → eqb (ofZ w32 x) (ofZ w32 y) ≡ t
+    go true e = eq-eqb (ofZ w32 x) (ofZ w32 y) (ap (ofZ w32) (same-is x y (subst T (sym e) tt)))
+    go false e = ne-eqb (ofZ w32 x) (ofZ w32 y) (λ h.
+        let q : x ≡ y = sym (toZ-ofZ w32 x f) ∙ ap (toZ w32) h ∙ toZ-ofZ w32 y g in
+        subst T e (subst (λ (z : ℤ). T (same z y)) (sym q) (subst T (sym (same-self y)) tt)))

@@ -1,0 +1,23 @@
+-- What a check answers: document 01, "Numbers of refusal".
+use mathlib.Core.Bool.{Bool, true, false}
+use mathlib.Core.Option.{Option, none, some}
+use Prim.Native.Nat.{ℕ}
+
+-- it accepts, with what it found out, or refuses by a number of the table and a place
+pub data Check (A : Type 0) : Type 0 where
+  accept : A → Check A
+  refuse : ℕ → ℕ → Check A
+
+-- "Each check opens the answer of the one before and goes on only if that was an acceptance."
+abbrev pub then : {A C : Type 0} → Check A → (A → Check C) → Check C
+then (accept a) f = f a
+then (refuse n i) f = refuse n i
+
+-- "9 and 10 carry the place of the first offender .. others carry 0"
+abbrev pub unless : {A : Type 0} → Bool → ℕ → Check A → Check A
+unless true n c = refuse n 0
+unless false n c = c
+
+abbrev pub unless-at : {A : Type 0} → Option ℕ → ℕ → Check A → Check A
+unless-at (some i) n c = refuse n i
+unless-at none n c = c

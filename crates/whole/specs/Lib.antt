@@ -1,0 +1,4 @@
+-- What document 01's formulas are written in.
+pub mod Numbers
+pub mod Lists
+pub mod Checks

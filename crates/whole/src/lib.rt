@@ -1,0 +1,1 @@
+// Whole numbers: definitions in specs/, laws in proofs/. No code.
