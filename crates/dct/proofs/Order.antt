@@ -6,7 +6,8 @@ use mathlib.Core.List.{List, [], _∷_, _++_}
 use Prim.Native.Nat.{ℕ, zero, suc, _-_, _/_}
 use lib.IntN.{ℤ, pos}
 use lib.ListN.{getD, replicate}
-use Rattle.whole.specs.Lists.{at, tab, any}
+use Rattle.whole.specs.Lists.{tab, any}
+use Rattle.whole.proofs.Counts.{any-snoc}
 use Rattle.av1.specs.Sides.{Side, of4, of8, of16, of32, len, bits}
 use Rattle.av1.specs.Network.{run, steps}
 use Rattle.av1.specs.Values.{clipped, Marked, unmarked, marked, values, marks, stored-only}
@@ -28,17 +29,9 @@ pub or-no : (a : Bool) → a || false ≡ a
 or-no true = refl
 or-no false = refl
 
-any-last : (k : ℕ) (f : ℕ → Bool) → any (suc k) f ≡ any k f || f k
-any-last zero f = or-no (f zero)
-any-last (suc k) f = ap (λ (b : Bool). f zero || b) (any-last k (λ i. f (suc i))) ∙ or-assoc (f zero) (any k (λ i. f (suc i))) (f (suc k))
-  where
-    or-assoc : (a b c : Bool) → a || (b || c) ≡ (a || b) || c
-    or-assoc true b c = refl
-    or-assoc false b c = refl
-
 inward-any : (k : ℕ) (f : ℕ → Bool) → inward k f ≡ any (double k) f
 inward-any zero f = refl
-inward-any (suc k) f = turn (f 0) (f (suc (double k))) _ _ (inward-any k (λ i. f (suc i))) ∙ ap (λ (b : Bool). f 0 || b) (sym (any-last (double k) (λ i. f (suc i))))
+inward-any (suc k) f = turn (f 0) (f (suc (double k))) _ _ (inward-any k (λ i. f (suc i))) ∙ ap (λ (b : Bool). f 0 || b) (sym (any-snoc (double k) (λ i. f (suc i))))
   where
     turn : (a c b d : Bool) → b ≡ d → (a || c) || b ≡ a || (d || c)
     turn true c b d e = refl

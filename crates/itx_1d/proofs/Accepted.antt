@@ -17,7 +17,9 @@ use denote.Enum.Declared.{tagOf}
 use types.Run.{OneOf, miss}
 use Rattle.whole.specs.Numbers.{same, outside, low, high}
 use Rattle.whole.specs.Lists.{at, first}
+use Rattle.whole.specs.Checks.{accept, unless, unless-at}
 use Rattle.whole.proofs.Clips.{inside-abs}
+use Rattle.whole.proofs.Counts.{first-none}
 use Rattle.whole.proofs.Held.{same-is}
 use Rattle.av1.specs.Sides.{Side, len}
 use Rattle.itx_1d.specs.declared.Kind.{Kind}
@@ -25,10 +27,10 @@ use Rattle.itx_1d.specs.declared.Kind.the-variants.{Wht}
 use Rattle.itx_1d.specs.declared.Pass.{Pass}
 use Rattle.itx_1d.specs.declared.Pass.the-variants.{Done, Range, Stride, Short, Element}
 use Rattle.itx_1d.specs.Passes.{Passed, pass}
-use Rattle.itx_1d.specs.Calls.{Outcome, acceptance, taken, put, unless, unless-at, is-range, bad-range, accepted, ranged, Meets}
+use Rattle.itx_1d.specs.Calls.{Outcome, acceptance, taken, put, outcome-of, is-range, bad-range, accepted, ranged, Meets}
 use Rattle.itx_1d.specs.Inner.{sided, after, range-check, place-check, element-check, Passable, Ranged, PassIs}
 use Rattle.itx_1d.proofs.Pass.{the-type}
-use Rattle.itx_1d.proofs.Checks.{is-done, refuse, none-first}
+use Rattle.itx_1d.proofs.Checks.{is-done, refuse}
 use Rattle.itx_1d.proofs.Strides.{in-reach}
 
 -- the four tests, as the code puts them and as the definition does
@@ -36,7 +38,7 @@ abbrev pub verdict : Bool → Bool → Bool → Option ℕ → Pass
 verdict t u v o = after (after (range-check t) (place-check u v)) (element-check o)
 
 abbrev pub defined : Bool → Bool → Bool → Option ℕ → List ℤ → Outcome → Outcome
-defined t u v o c out = unless t 11 c (unless u 12 c (unless v 13 c (unless-at o 14 c out)))
+defined t u v o c out = outcome-of c out (unless t 11 (unless u 12 (unless v 13 (unless-at o 14 (accept tt)))))
 
 pub record Good (t u v : Bool) (o : Option ℕ) : Type 0 where
   pub range : t ≡ false
@@ -69,7 +71,7 @@ passable c s n lo hi e l h g =
     let nonzero = eqb-false s 0 (g .stride) in
     record {
       reaches = record { is-length = e; some-stride = omega arith; inside = in-reach c n s (g .short) };
-      small = λ j b. inside-abs (at c (j * s)) lo hi (none-first n (λ i. outside (at c (i * s)) lo hi) (g .elements) j b) l h;
+      small = λ j b. inside-abs (at c (j * s)) lo hi (first-none n (λ i. outside (at c (i * s)) lo hi) (g .elements) j b) l h;
     }
 
 of-range : (lo hi : ℤ) (m : ℕ) → T (is-range lo hi m) → natAbs (low m) ≡ m → m ≤ 524288 → Ranged lo hi

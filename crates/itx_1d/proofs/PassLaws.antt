@@ -1,5 +1,5 @@
 -- Laws of a pass, each for every kind and every length.
-use mathlib.Core.Path.{_≡_, refl, sym, ap, _∙_, subst, subst⁻¹}
+use mathlib.Core.Path.{_≡_, refl, sym, ap, _∙_, subst⁻¹}
 use mathlib.Core.Bool.{Bool, true, false}
 use mathlib.Core.List.{List, [], _∷_, map}
 use Prim.Native.Nat.{ℕ, zero, suc, _+_, _*_, _-_, _^_, _≤_}
@@ -23,6 +23,10 @@ use Rattle.av1.proofs.Unclipped.{marked-values, unclipped}
 use Rattle.itx_1d.specs.Passes.{Passed, stepped, identity, wht, pass, clip-acts}
 use Rattle.itx_1d.specs.declared.Kind.{Kind}
 use Rattle.itx_1d.specs.declared.Kind.the-variants.{Dct, Identity, Wht}
+
+-- what the mark of `pass` keeps
+abbrev keeping : Bool → Bool → Bool
+keeping = stored-only
 
 -- ---- one number first and nothing else
 
@@ -59,7 +63,7 @@ module _ (n : Side) (m : ℕ) (d : ℤ) (d-inside : outside d (low m) (high m) �
 
   pub dc-pass : pass Dct n m (tab (len n) (only d)) ≡ record { values = replicate (len n) level; mark = false }
   unfolding pass
-  dc-pass = ap passed (dc-stepped stored-only refl) ∙ passed-all (len n) level
+  dc-pass = ap passed (dc-stepped keeping refl) ∙ passed-all (len n) level
 
   pub dc-unclipped : clip-acts Dct n m (tab (len n) (only d)) ≡ false
   unfolding clip-acts
@@ -80,7 +84,7 @@ identity-zero of8 = refl
 identity-zero of16 = refl
 identity-zero of32 = refl
 
-identity-at : (n : Side) (xs : List ℤ) (i : ℕ) → at (map (identity n) xs) i ≡ identity n (at xs i)
+pub identity-at : (n : Side) (xs : List ℤ) (i : ℕ) → at (map (identity n) xs) i ≡ identity n (at xs i)
 identity-at n xs i = ap (getD (map (identity n) xs) i) (sym (identity-zero n)) ∙ map-at (identity n) xs i (pos 0)
 
 zero-at : (k x : ℕ) → at (zeros k) x ≡ pos 0
@@ -112,6 +116,12 @@ module _ (n : Side) (m : ℕ) where
   zero-unmarked Dct = ap (λ (p : Passed). p .mark) dct-zero
   zero-unmarked Identity = refl
   zero-unmarked Wht = refl
+
+  pub zero-unclipped : (k : Kind) → clip-acts k n m (zeros (len n)) ≡ false
+  unfolding clip-acts
+  zero-unclipped Dct = ap (clip-acts Dct n m) (only-zero (len n)) ∙ dc-unclipped n m (pos 0) (zero-inside m)
+  zero-unclipped Identity = refl
+  zero-unclipped Wht = refl
 
 -- ---- the specification
 
@@ -156,7 +166,7 @@ module _ (n : Side) (m : ℕ) (xs : List ℤ) where
 
   dct-values : pass Dct n m xs .values ≡ dct (clipped (low m) (high m)) (bits n) xs
   unfolding pass
-  dct-values = marked-values (low m) (high m) stored-only (bits n) xs
+  dct-values = marked-values (low m) (high m) keeping (bits n) xs
 
   -- where no clip inside acts
   pub pass-av1 : (k : Kind) → clip-acts k n m xs ≡ false → pass k n m xs .values ≡ av1-pass k n xs
@@ -211,10 +221,10 @@ module _ (n : Side) (m : ℕ) (xs : List ℤ) where
   unfolding pass round2 _>>_
   dct-in-range i =
       let input : ℕ → Marked = λ i. getD (map unmarked xs) (brev (bits n) i) (unmarked (pos 0)) in
-      let after : ℕ → List Marked = λ k. run (marked stored-only (low m) (high m)) (steps (bits n)) (tab k input) in
+      let after : ℕ → List Marked = λ k. run (marked keeping (low m) (high m)) (steps (bits n)) (tab k input) in
       ap (λ (z : ℤ). outside z (low m) (high m)) (map-at (λ (u : Marked). u .v) (after (2 ^ bits n)) i (unmarked (pos 0)))
       ∙ ap (λ (k : ℕ). outside (getD (after k) i (unmarked (pos 0)) .v) (low m) (high m)) (len-power n)
-      ∙ Known.in-range stored-only refl (low m) (high m) (pos 0) (zero-inside m) (zero-inside m) n input i
+      ∙ Known.in-range keeping refl (low m) (high m) (pos 0) (zero-inside m) (zero-inside m) n input i
 
   -- what a pass leaves of numbers up to k, with a range up to k
   pub pass-small : (kind : Kind) (k : ℕ) → m ≤ k → ((i : ℕ) → natAbs (at xs i) ≤ k) → (i : ℕ) → natAbs (at (pass kind n m xs .values) i) ≤ 5 * k + 2
@@ -231,6 +241,6 @@ module _ (n : Side) (m : ℕ) (xs : List ℤ) where
 
   pub pass-length : (kind : Kind) → length xs ≡ len n → length (pass kind n m xs .values) ≡ left kind
   unfolding pass wht
-  pass-length Dct e = map-length (λ (u : Marked). u .v) (stepped stored-only n m xs) ∙ dct-length (marked stored-only (low m) (high m)) n (map unmarked xs)
+  pass-length Dct e = map-length (λ (u : Marked). u .v) (stepped keeping n m xs) ∙ dct-length (marked keeping (low m) (high m)) n (map unmarked xs)
   pass-length Identity e = map-length (identity n) xs ∙ e
   pass-length Wht e = refl

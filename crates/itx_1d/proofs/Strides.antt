@@ -1,8 +1,8 @@
 -- Reading and writing the elements 0, s, 2s, .. of a list, once over the count.
 use mathlib.Core.Path.{_≡_, refl, sym, ap, _∙_, subst}
 use mathlib.Core.Logic.{_≢_}
-use mathlib.Core.Bool.{Bool, true, false, _&&_}
-use mathlib.Core.List.{List, [], _∷_, _++_, map}
+use mathlib.Core.Bool.{false, _&&_}
+use mathlib.Core.List.{List, [], _∷_, _++_}
 use Prim.Native.Nat.{ℕ, zero, suc, _+_, _*_, _-_, _/_, _≤_, _<_}
 use native.Mathlib.Nat.{eq-of-mul-eq-mul-right, mul-le-mul-right, lt-of-le-of-lt}
 use native.Mathlib.Omega.{arith}
@@ -10,9 +10,10 @@ use lib.IntN.{ℤ, pos}
 use lib.ListN.{getD, set, length, replicate, length-set}
 use lib.Seq.{getD-set-same, getD-set-other}
 use lib.Dec.{T, ltb, ltb→lt, leb, leb→le}
-use borrow.Author.Tests.{ltb-false, leb-false}
+use borrow.Author.Tests.{leb-false}
 use mir.Facts.{and-yes}
 use Rattle.whole.specs.Lists.{at, tab}
+use Rattle.whole.proofs.Counts.{last-or-less}
 use Rattle.av1.specs.Sides.{Side, of4, of8, of16, of32, len}
 use Rattle.itx_1d.specs.Calls.{put}
 use Rattle.itx_1d.specs.Inner.{sided, revs, source, sources-below}
@@ -53,14 +54,7 @@ in-reach c n s e j h =
     let p : j ≤ n - 1 = omega arith in
     lt-of-le-of-lt (mul-le-mul-right s p) (leb-false (length c) ((n - 1) * s) e)
 
--- ---- an index below suc k is k, or below k
-
-last-or-less : (i k : ℕ) (P : ℕ → Type 0) → i < suc k → P k → (i < k → P i) → P i
-last-or-less i k P h p f = go (ltb i k) refl
-  where
-    go : (b : Bool) → ltb i k ≡ b → P i
-    go true e = f (ltb→lt i k (subst T (sym e) tt))
-    go false e = subst P (omega (arith, ltb-false i k e)) p
+-- ---- bit-reversed order
 
 -- where element i of the work array comes from
 pub record Source (n i : ℕ) : Type 0 where
@@ -116,9 +110,3 @@ module _ (c : List ℤ) (s : ℕ) (vs : List ℤ) (some : 0 < s) where
       last-or-less i k (λ (n : ℕ). at (put c s vs (suc k)) (n * s) ≡ at vs n) h
       (getD-set-same (put c s vs k) (k * s) (at vs k) (pos 0) (subst (λ (n : ℕ). k * s < n) (sym (length-put c s vs k)) (l k (omega arith))))
       (λ g. getD-set-other (put c s vs k) (k * s) (i * s) (at vs k) (pos 0) (λ e. apart i k g (sym e)) ∙ put-at k i g (λ j u. l j (omega arith)))
-
--- element i of a list that is made place by place
-pub at-map : (f : ℤ → ℤ) (n : ℕ) (g : ℕ → ℤ) (i : ℕ) → i < n → at (map f (tab n g)) i ≡ f (g i)
-at-map f zero g i h = let x : ⊥ = omega arith in absurd x
-at-map f (suc n) g zero h = refl
-at-map f (suc n) g (suc i) h = at-map f n (λ j. g (suc j)) i (omega arith)

@@ -2,13 +2,13 @@
 use mathlib.Core.Bool.{Bool, true, false, not, cond, _&&_, _||_}
 use mathlib.Core.List.{List}
 use mathlib.Core.Path.{_≡_}
-use mathlib.Core.Option.{Option, none, some}
 use Prim.Native.Nat.{ℕ, zero, suc, _*_, _-_}
 use lib.Dec.{eqb, leb}
 use lib.IntN.{ℤ, natAbs}
 use lib.ListN.{length, set}
 use Rattle.whole.specs.Numbers.{same, outside, low, high}
 use Rattle.whole.specs.Lists.{at, tab, first}
+use Rattle.whole.specs.Checks.{Check, accept, refuse, unless, unless-at}
 use Rattle.av1.specs.Sides.{Side, of4, len}
 use Rattle.itx_1d.specs.Passes.{Passed, pass}
 use Rattle.itx_1d.specs.declared.Kind.{Kind}
@@ -54,14 +54,6 @@ pub record Outcome : Type 0 where
   pub answer : Answer
   pub elements : List ℤ
 
-abbrev pub unless : Bool → ℕ → List ℤ → Outcome → Outcome
-unless true number c o = record { answer = refusal number 0; elements = c }
-unless false number c o = o
-
-abbrev pub unless-at : Option ℕ → ℕ → List ℤ → Outcome → Outcome
-unless-at (some i) number c o = record { answer = refusal number i; elements = c }
-unless-at none number c o = o
-
 -- an accepted pass, of the range -m .. m - 1
 abbrev pub accepted : Kind → Side → ℕ → ℕ → List ℤ → Outcome
 accepted kind n m s c =
@@ -69,20 +61,25 @@ accepted kind n m s c =
     record { answer = acceptance (p .mark); elements = put c s (p .values) (len n) }
 
 -- numbers 12 to 14, in order, of the range lo .. hi
-abbrev pub in-place : Kind → Side → List ℤ → ℕ → ℤ → ℤ → Outcome
-in-place kind n c s lo hi =
-    unless (eqb s 0) 12 c
-    (unless (leb (length c) ((len n - 1) * s)) 13 c
-    (unless-at (first (len n) (λ i. outside (at c (i * s)) lo hi)) 14 c
-    (accepted kind n (natAbs lo) s c)))
+abbrev pub checks : ℕ → List ℤ → ℕ → ℤ → ℤ → Check (Unit {0})
+checks n c s lo hi =
+    unless (eqb s 0) 12
+    (unless (leb (length c) ((n - 1) * s)) 13
+    (unless-at (first n (λ i. outside (at c (i * s)) lo hi)) 14
+    (accept tt)))
+
+-- "A refusal leaves pixels, coefficients and elements unchanged, with mark no."
+abbrev pub outcome-of : List ℤ → Outcome → Check (Unit {0}) → Outcome
+outcome-of c o (accept u) = o
+outcome-of c o (refuse n i) = record { answer = refusal n i; elements = c }
 
 -- a DCT or identity pass takes its range, which number 11 judges first
 unfoldable pub ranged : Kind → Side → List ℤ → ℕ → ℤ → ℤ → Outcome
-ranged kind n c s lo hi = unless (bad-range lo hi) 11 c (in-place kind n c s lo hi)
+ranged kind n c s lo hi = outcome-of c (accepted kind n (natAbs lo) s c) (unless (bad-range lo hi) 11 (checks (len n) c s lo hi))
 
 -- "WHT passes have no range, so no 11"; 14 "for WHT outside -16777216..16777215"
 unfoldable pub unranged : List ℤ → ℕ → Outcome
-unranged c s = in-place Wht of4 c s (low 16777216) (high 16777216)
+unranged c s = outcome-of c (accepted Wht of4 16777216 s c) (checks 4 c s (low 16777216) (high 16777216))
 
 -- what a public pass answers and leaves
 pub record Meets (o : Outcome) (r : Pass) (c : List ℤ) : Type 0 where

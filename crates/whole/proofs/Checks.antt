@@ -1,5 +1,5 @@
 -- What an acceptance tells of the checks before it.
-use mathlib.Core.Path.{_≡_, refl}
+use mathlib.Core.Path.{_≡_, refl, sym, ap, _∙_}
 use mathlib.Core.Bool.{Bool, true, false}
 use mathlib.Core.Option.{Option, none, some}
 use Prim.Native.Nat.{ℕ}
@@ -23,3 +23,12 @@ open-at none n c a e = (refl, e)
 
 pub same-accept : {A : Type 0} (a a′ : A) → accept a ≡ accept a′ → a ≡ a′
 same-accept a a′ e = cc
+
+-- and what a refusal tells of its own test
+pub refused-by : {A : Type 0} (t : Bool) (n : ℕ) (a : A) → unless t n (accept a) ≡ refuse n 0 → t ≡ true
+refused-by true n a e = refl
+refused-by false n a e = absurd (refuse≢accept n 0 a (sym e))
+
+-- where an answer can be read back from what it says, no second answer says the same
+pub one-answer : {A C : Type 0} (says : A → C) (back : C → A) → ((r : A) → back (says r) ≡ r) → {c : C} {r r′ : A} → says r ≡ c → says r′ ≡ c → r ≡ r′
+one-answer says back h {c} {r} {r′} e e′ = sym (h r) ∙ ap back (e ∙ sym e′) ∙ h r′

@@ -1,11 +1,11 @@
 -- Numbers in a range, rounded shifts by their two bounds, and what scaling by 181 / 256 does to them.
 use mathlib.Core.Path.{_≡_, refl, ap₂, _∙_}
 use mathlib.Core.Bool.{Bool, true, false, _||_}
-use Prim.Native.Nat.{ℕ, suc, _+_, _*_, _-_, _≤_, _<_, _^_}
+use Prim.Native.Nat.{ℕ, suc, _+_, _*_, _-_, _≤_, _^_}
 use native.Mathlib.Omega.{arith}
 use lib.IntN.{ℤ, pos, negsuc, _+ℤ_, _*ℤ_, natAbs}
 use lib.Pow.{pow-pos}
-use lib.Signed.{ltZ, shrZ}
+use lib.Signed.{ltZ}
 use Rattle.whole.specs.Numbers.{_>>_, round2, clip, outside, low, high}
 use Rattle.whole.proofs.Parts.{pp, nn, Rep, rep-self, rep-add, rep-mul, rep-eq, parts-nlt, nlt-parts}
 use Rattle.whole.proofs.Floors.{Floor, shr-floor, floor-one}

@@ -5,13 +5,13 @@ use Prim.Native.Nat.{ℕ, _≤_, _<_, _*_, _-_}
 use native.Mathlib.Omega.{arith}
 use lib.IntN.{ℤ}
 use lib.ListN.{length}
-use borrow.Author.Count.{below-none, below-more}
+use borrow.Author.Count.{below-more}
 use mir.Syntax.{w32}
 use mir.Val.{toZ, ofZ}
 use mir.ValLaws.{toZ-ofZ}
 use Rattle.whole.specs.Numbers.{outside}
 use Rattle.whole.specs.Lists.{at}
-use Rattle.itx_1d.proofs.Checks.{first-found, none-found}
+use Rattle.whole.proofs.Counts.{first-found, none-first}
 use Rattle.itx_1d.proofs.first_outside.Statement.{statement}
 use Rattle.itx_1d.proofs.first_outside.Tie as tie
 
@@ -41,9 +41,9 @@ returns : tie.Need-returns Inv-loop μ-loop
 returns c =
     let h = c .before .before .before .before in
     let s = h .before in
-    first-found (s .args .n) (λ i. outside (at (s .args .c .now) (i * s .args .stride)) (s .args .min) (s .args .max)) (h .loop .i) (c .before .before .before .loop-test .taken)
-    (λ k l. sym (plain s _) ∙ h .loop .inv .1 k l)
+    sym (first-found (s .args .n) (λ i. outside (at (s .args .c .now) (i * s .args .stride)) (s .args .min) (s .args .max)) (h .loop .i) (c .before .before .before .loop-test .taken)
     (sym (plain s _) ∙ sym (held (c .before)) ∙ c .if1 .taken)
+    (λ k l. sym (plain s _) ∙ h .loop .inv .1 k l))
 
 loop-again : tie.Need-loop-again Inv-loop μ-loop
 loop-again c =
@@ -54,7 +54,7 @@ returns-2 : tie.Need-returns-2 Inv-loop μ-loop
 returns-2 c =
     let h = c .before in
     let s = h .before in
-    none-found (s .args .n) (λ i. outside (at (s .args .c .now) (i * s .args .stride)) (s .args .min) (s .args .max)) (λ k l. sym (plain s _) ∙ h .loop .inv .1 k (omega arith))
+    sym (none-first (s .args .n) (λ i. outside (at (s .args .c .now) (i * s .args .stride)) (s .args .min) (s .args .max)) (λ k l. sym (plain s _) ∙ h .loop .inv .1 k (omega arith)))
 
 pub first-outside-spec : {M : Type 1} → statement M
 first-outside-spec =

@@ -1,0 +1,2 @@
+-- Laws of the depths.
+pub mod Unique

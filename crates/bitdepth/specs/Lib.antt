@@ -1,0 +1,2 @@
+-- What is fixed by the depth.
+pub mod Depths

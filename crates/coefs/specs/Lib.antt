@@ -1,0 +1,2 @@
+-- Searches over the coefficients of a block.
+pub mod Coefs

@@ -1,0 +1,123 @@
+-- Coefficients past w·h and pixels outside the block influence nothing: a call on other ones answers the same, and leaves the same in the block.
+use mathlib.Core.Path.{_≡_, refl, sym, ap, ap₂, _∙_, subst, subst⁻¹}
+use mathlib.Core.Bool.{Bool, false, cond, _&&_, _||_}
+use mathlib.Core.List.{List}
+use Prim.Native.Nat.{ℕ, suc, _+_, _*_, _%_, _≤_, _<_}
+use native.Mathlib.Nat.{mul-le-mul-right}
+use native.Mathlib.Omega.{arith}
+use lib.Dec.{ltb, leb}
+use lib.IntN.{ℤ, pos}
+use lib.ListN.{getD, length}
+use Rattle.whole.specs.Numbers.{outside, low, high}
+use Rattle.whole.specs.Lists.{at}
+use Rattle.whole.specs.Checks.{Check, accept, refuse, then, unless, unless-at}
+use Rattle.whole.proofs.Counts.{tab-ext, any-ext, first-ext}
+use Rattle.itx_1d.specs.Calls.{acceptance, refusal}
+use Rattle.itx_1d.specs.Passes.{Passed}
+use Rattle.bitdepth.specs.declared.Depth.{Depth}
+use Rattle.bitdepth.specs.Depths.{depth, row-range, maximum}
+use Rattle.levels.specs.declared.Plan.{Plan}
+use Rattle.levels.specs.Plans.{plan}
+use Rattle.levels.proofs.Sizes.{plan-of}
+use Rattle.strided.specs.Planes.{in-pixels, bad-stride, rows-outside, place}
+use Rattle.residual.specs.Blocks.{Way, entered, row, middle, column, residual, marked, way, shortcut}
+use Rattle.coefs.specs.Coefs.{nonzero}
+use Rattle.pixels.specs.Adds.{add-pixel}
+use Rattle.itx.specs.Calls.{Block, Call, plain, live, bad-eob, bad-rows, stray, checks, verdict, short, live-rows, outcome-of, outcome}
+use Rattle.itx.proofs.Outcomes.{added, answer-is, pixel-rule}
+use Rattle.itx.proofs.Sameness.{live-inside, area-positive}
+use Rattle.itx.proofs.Verdicts.{Accepted, accepting, accepted-by}
+
+-- ---- the transform reads the first w·h coefficients
+
+module _ (𝓦 : Way) (c c′ : List ℤ) (alike : (i : ℕ) → i < 𝓦 .w * 𝓦 .h → at c i ≡ at c′ i) where
+  row-alike : (y : ℕ) → y < 𝓦 .h → row 𝓦 c y ≡ row 𝓦 c′ y
+  row-alike y l =
+      ap (𝓦 .row)
+      (tab-ext (𝓦 .w) (entered 𝓦 c y) (entered 𝓦 c′ y) (λ x g. ap (𝓦 .enter) (alike (y + x * 𝓦 .h) (omega (arith, mul-le-mul-right {m = suc x} {n = 𝓦 .w} (𝓦 .h) g)))))
+
+  column-alike : (r x : ℕ) → column 𝓦 c r x ≡ column 𝓦 c′ r x
+  column-alike r x =
+      ap (𝓦 .column)
+      (tab-ext (𝓦 .h) (λ y. middle 𝓦 c r y x) (λ y. middle 𝓦 c′ r y x) (λ y l. ap (λ (s : Passed). cond (ltb y r) (𝓦 .between (at (s .values) x)) (pos 0)) (row-alike y l)))
+
+  residual-alike : (r y x : ℕ) → residual 𝓦 c r y x ≡ residual 𝓦 c′ r y x
+  residual-alike r y x = ap (λ (s : Passed). 𝓦 .leave (at (s .values) y)) (column-alike r x)
+
+  marked-alike : (r : ℕ) → r ≤ 𝓦 .h → marked 𝓦 c r ≡ marked 𝓦 c′ r
+  marked-alike r m = ap₂ (λ a b. a || b)
+      (any-ext r _ _ (λ y l. ap (λ (s : Passed). s .mark) (row-alike y (omega arith))))
+      (any-ext (𝓦 .w) _ _ (λ x l. ap (λ (s : Passed). s .mark) (column-alike r x)))
+
+-- ---- the calls
+
+stray-alike : (call : Call) (h : ℕ) (c c′ : List ℤ) (i : ℕ) → at c i ≡ at c′ i → stray call h c i ≡ stray call h c′ i
+stray-alike (plain e) h c c′ i q = refl
+stray-alike (live r) h c c′ i q = ap (λ (z : ℤ). leb r (i % h) && nonzero z) q
+
+-- the block with other coefficients and pixels
+abbrev pub other : Block → List ℤ → List ℕ → Block
+other b c ps = record { w = b .w; h = b .h; type = b .type; depth = b .depth; coefs = c; plane = record { pixels = ps; offset = b .plane .offset; stride = b .plane .stride } }
+
+module _ (call : Call) (b : Block) (c : List ℤ) (ps : List ℕ) (alike : (i : ℕ) → i < b .w * b .h → at (b .coefs) i ≡ at c i)
+    (as-enough : ltb (length (b .coefs)) (b .w * b .h) ≡ ltb (length c) (b .w * b .h)) (as-many : length (b .plane .pixels) ≡ length ps) where
+  -- the checks look at nothing else
+  same-checks : (p : Plan) (d : Depth) → p .w ≡ b .w → p .h ≡ b .h → checks call b p d ≡ checks call (other b c ps) p d
+  same-checks p d e f =
+      let n = p .w * p .h in
+      let m = row-range d in
+      let area : n ≡ b .w * b .h = ap₂ (λ (u v : ℕ). u * v) e f in
+      let same : (i : ℕ) → i < n → at (b .coefs) i ≡ at c i = λ i l. alike i (subst (λ (k : ℕ). i < k) area l) in
+      let ranged = first-ext n (λ i. outside (at (b .coefs) i) (low m) (high m)) (λ i. outside (at c i) (low m) (high m)) (λ i l. ap (λ (z : ℤ). outside z (low m) (high m)) (same i l)) in
+      let covered = first-ext n (stray call (p .h) (b .coefs)) (stray call (p .h) c) (λ i l. stray-alike call (p .h) (b .coefs) c i (same i l)) in
+      let enough = subst⁻¹ (λ (k : ℕ). ltb (length (b .coefs)) k ≡ ltb (length c) k) area as-enough in
+      λ j. unless (bad-eob call) 4 (unless (bad-rows call (p .h)) 5 (unless (enough j) 6 (unless (bad-stride (p .w) (b .plane .stride)) 7
+      (unless (rows-outside (as-many j) (b .plane .offset) (in-pixels (b .plane .stride)) (p .w) (p .h)) 8 (unless-at (ranged j) 9 (unless-at (covered j) 10 (accept (p, d))))))))
+
+  pub same-verdict : verdict call b ≡ verdict call (other b c ps)
+  same-verdict = sized (plan (b .w) (b .h) (b .type)) refl
+    where
+      deep : (p : Plan) → p .w ≡ b .w → p .h ≡ b .h → (o : Check Depth) → then o (checks call b p) ≡ then o (checks call (other b c ps) p)
+      deep p e f (accept d) = same-checks p d e f
+      deep p e f (refuse n i) = refl
+
+      sized : (o : Check Plan) → plan (b .w) (b .h) (b .type) ≡ o
+          → then o (λ p. then (depth (b .depth)) (checks call b p)) ≡ then o (λ p. then (depth (b .depth)) (checks call (other b c ps) p))
+      sized (accept p) e = let k = plan-of (b .w) (b .h) (b .type) p e in deep p (k .w-is) (k .h-is) (depth (b .depth))
+      sized (refuse n i) e = refl
+
+  -- an accepted call
+  module _ (p : Plan) (d : Depth) (good : Accepted call b p d) where
+    pub accepted-too : Accepted call (other b c ps) p d
+    accepted-too = accepted-by call (other b c ps) p d (sym same-verdict ∙ accepting call b p d good)
+
+    same : (i : ℕ) → i < p .w * p .h → at (b .coefs) i ≡ at c i
+    same i l = let k = plan-of (b .w) (b .h) (b .type) p (good .planned) in alike i (subst (λ (n : ℕ). i < n) (ap₂ (λ (u v : ℕ). u * v) (k .w-is) (k .h-is)) l)
+
+    accepted-alike : outcome call b .answer ≡ outcome call (other b c ps) .answer
+    accepted-alike =
+        answer-is call b p d good
+        ∙ ap (λ (t : Bool). acceptance (cond (short call p) false t)) (marked-alike (way p d) (b .coefs) c same (live-rows call p) (live-inside call b p d good))
+        ∙ sym (answer-is call (other b c ps) p d accepted-too)
+
+    added-alike : (y x : ℕ) → added call b p d y x ≡ added call (other b c ps) p d y x
+    added-alike y x =
+        ap₂ (λ (s l : ℤ). cond (short call p) s l) (ap (shortcut p) (same 0 (area-positive b p d call good))) (residual-alike (way p d) (b .coefs) c same (live-rows call p) y x)
+
+    -- a pixel of the block that is the same before is the same afterwards
+    pub same-pixel : (y x : ℕ) → y < p .h → x < p .w → getD (b .plane .pixels) (place (b .plane) y x) 0 ≡ getD ps (place (b .plane) y x) 0
+        → getD (outcome call b .pixels) (place (b .plane) y x) 0 ≡ getD (outcome call (other b c ps) .pixels) (place (b .plane) y x) 0
+    same-pixel y x l g e =
+        pixel-rule call b p d good y x l g ∙ (λ i. add-pixel (maximum d) (e i) (added-alike y x i)) ∙ sym (pixel-rule call (other b c ps) p d accepted-too y x l g)
+
+  -- any call
+  pub same-answer : outcome call b .answer ≡ outcome call (other b c ps) .answer
+  unfolding outcome
+  same-answer = go (verdict call b) refl
+    where
+      refused : (n i : ℕ) (o : Block) → verdict call o ≡ refuse n i → outcome call o .answer ≡ refusal n i
+      refused n i o e = ap (λ v. outcome-of way call o v .answer) e
+
+      go : (v : Check (Plan × Depth)) → verdict call b ≡ v → outcome call b .answer ≡ outcome call (other b c ps) .answer
+      go (refuse n i) e = refused n i b e ∙ sym (refused n i (other b c ps) (sym same-verdict ∙ e))
+      go (accept (p, d)) e = accepted-alike p d (accepted-by call b p d e)

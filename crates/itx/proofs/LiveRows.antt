@@ -1,0 +1,104 @@
+-- Zero rows may be left out: a transform with r live rows is the transform with all of them, wherever the rows from r on are zero.
+use mathlib.Core.Path.{_≡_, refl, sym, ap, ap₂, _∙_, subst}
+use mathlib.Core.Bool.{Bool, true, false, cond, _||_}
+use mathlib.Core.List.{List}
+use Prim.Native.Nat.{ℕ, zero, suc, _*_, _≤_, _<_}
+use native.Mathlib.Nat.{div-eq-of-lt}
+use native.Mathlib.Omega.{arith}
+use borrow.Author.Tests.{ltb-false, lt-ltb}
+use lib.Dec.{eqb, ltb}
+use lib.IntN.{ℤ, pos, _*ℤ_}
+use lib.Pow.{pow-lt}
+use Rattle.whole.specs.Numbers.{_>>_, round2, clip, low, high}
+use Rattle.whole.specs.Lists.{at}
+use Rattle.whole.proofs.Clips.{clip-inside}
+use Rattle.whole.proofs.Counts.{tab-ext, any-ext, any-upto}
+use Rattle.whole.proofs.Ranges.{zero-inside}
+use Rattle.itx_1d.specs.declared.Kind.{Kind}
+use Rattle.itx_1d.specs.declared.Kind.the-variants.{Dct, Identity, Wht}
+use Rattle.itx_1d.specs.Passes.{Passed, pass}
+use Rattle.itx_1d.proofs.PassLaws.{zeros, zero-pass, zero-unmarked}
+use Rattle.bitdepth.specs.declared.Depth.{Depth}
+use Rattle.bitdepth.specs.Depths.{row-range, column-range}
+use Rattle.levels.specs.declared.Plan.{Plan}
+use Rattle.levels.specs.Plans.{side}
+use Rattle.levels.proofs.Sizes.{Sided}
+use Rattle.coefs.specs.Coefs.{Covers}
+use Rattle.residual.specs.Blocks.{Way, entered, row, middle, column, residual, marked, prescale, if-wht, way}
+
+-- zero stays zero, up to the column pass
+pub record Quiet (𝓦 : Way) : Type 0 where
+  pub enter-zero : 𝓦 .enter (pos 0) ≡ pos 0
+  pub row-zero : (x : ℕ) → at (𝓦 .row (zeros (𝓦 .w)) .values) x ≡ pos 0
+  pub row-unmarked : 𝓦 .row (zeros (𝓦 .w)) .mark ≡ false
+  pub between-zero : 𝓦 .between (pos 0) ≡ pos 0
+
+module _ (𝓦 : Way) (q : Quiet 𝓦) (c : List ℤ) (r : ℕ) (r≤h : r ≤ 𝓦 .h) (covers : Covers (𝓦 .w) (𝓦 .h) c r) where
+  zero-row : (y : ℕ) → r ≤ y → y < 𝓦 .h → row 𝓦 c y ≡ 𝓦 .row (zeros (𝓦 .w))
+  zero-row y a b = ap (𝓦 .row) (tab-ext (𝓦 .w) (entered 𝓦 c y) (λ i. pos 0) (λ x l. ap (𝓦 .enter) (covers y x a b l) ∙ q .enter-zero))
+
+  middle-same : (y x : ℕ) → y < 𝓦 .h → middle 𝓦 c r y x ≡ middle 𝓦 c (𝓦 .h) y x
+  middle-same y x b = go (ltb y r) refl ∙ sym (shown (lt-ltb y (𝓦 .h) b))
+    where
+      v : ℤ
+      v = 𝓦 .between (at (row 𝓦 c y .values) x)
+
+      shown : {s t : Bool} → s ≡ t → cond s v (pos 0) ≡ cond t v (pos 0)
+      shown e = ap (λ (t : Bool). cond t v (pos 0)) e
+
+      go : (t : Bool) → ltb y r ≡ t → cond (ltb y r) v (pos 0) ≡ v
+      go true e = shown e
+      go false e =
+          let z = zero-row y (ltb-false y r e) b in
+          shown e ∙ sym (ap (λ (s : Passed). 𝓦 .between (at (s .values) x)) z ∙ ap (𝓦 .between) (q .row-zero x) ∙ q .between-zero)
+
+  column-same : (x : ℕ) → column 𝓦 c r x ≡ column 𝓦 c (𝓦 .h) x
+  column-same x = ap (𝓦 .column) (tab-ext (𝓦 .h) _ _ (λ y b. middle-same y x b))
+
+  pub residual-same : (y x : ℕ) → residual 𝓦 c r y x ≡ residual 𝓦 c (𝓦 .h) y x
+  residual-same y x = ap (λ (s : Passed). 𝓦 .leave (at (s .values) y)) (column-same x)
+
+  pub marked-same : marked 𝓦 c r ≡ marked 𝓦 c (𝓦 .h)
+  marked-same = ap₂ (λ a b. a || b)
+      (any-upto r (𝓦 .h) (λ y. row 𝓦 c y .mark) r≤h (λ y a b. ap (λ (s : Passed). s .mark) (zero-row y a b) ∙ q .row-unmarked))
+      (any-ext (𝓦 .w) (λ x. column 𝓦 c r x .mark) (λ x. column 𝓦 c (𝓦 .h) x .mark) (λ x l. ap (λ (s : Passed). s .mark) (column-same x)))
+
+-- ---- every plan's way is quiet
+
+round-zero : (k : ℕ) → round2 (pos 0) k ≡ pos 0
+unfolding round2 _>>_
+round-zero zero = refl
+round-zero (suc k) = ap pos (div-eq-of-lt (omega (arith, pow-lt {i = k} {j = suc k} (omega arith))))
+
+pub prescale-zero : (w h : ℕ) → prescale w h (pos 0) ≡ pos 0
+unfolding Rattle.residual.specs.Blocks.prescale
+prescale-zero w h = go (eqb (w * 2) h || eqb (h * 2) w)
+  where
+    go : (t : Bool) → cond t (round2 (pos 0 *ℤ pos 181) 8) (pos 0) ≡ pos 0
+    go true = round-zero 8
+    go false = refl
+
+shift-zero : pos 0 >> 2 ≡ pos 0
+unfolding _>>_
+shift-zero = refl
+
+enter-zero : (k : Kind) (w h : ℕ) → if-wht k (pos 0 >> 2) (prescale w h (pos 0)) ≡ pos 0
+enter-zero Dct w h = prescale-zero w h
+enter-zero Identity w h = prescale-zero w h
+enter-zero Wht w h = shift-zero
+
+clip-zero : (s m : ℕ) → clip (round2 (pos 0) s) (low m) (high m) ≡ pos 0
+clip-zero s m = ap (λ (z : ℤ). clip z (low m) (high m)) (round-zero s) ∙ clip-inside (pos 0) (low m) (high m) (zero-inside m)
+
+between-zero : (k : Kind) (s m : ℕ) → if-wht k (pos 0) (clip (round2 (pos 0) s) (low m) (high m)) ≡ pos 0
+between-zero Dct s m = clip-zero s m
+between-zero Identity s m = clip-zero s m
+between-zero Wht s m = refl
+
+pub quiet : (p : Plan) (d : Depth) → Sided (p .w) → Quiet (way p d)
+quiet p d e = record {
+  enter-zero = enter-zero (p .rows) (p .w) (p .h);
+  row-zero = λ x. subst (λ (w : ℕ). at (pass (p .rows) (side (p .w)) (row-range d) (zeros w) .values) x ≡ pos 0) e (zero-pass (side (p .w)) (row-range d) (p .rows) x);
+  row-unmarked = subst (λ (w : ℕ). pass (p .rows) (side (p .w)) (row-range d) (zeros w) .mark ≡ false) e (zero-unmarked (side (p .w)) (row-range d) (p .rows));
+  between-zero = between-zero (p .rows) (p .shift) (column-range d);
+}

@@ -1,0 +1,160 @@
+-- Demand 3, live rows: each covering count and each eob from 1 up leave the same; a count that does not cover is refused as stray, and no other.
+use mathlib.Core.Path.{_≡_, refl, sym, ap, _∙_}
+use mathlib.Core.Bool.{Bool, true, false, cond, not, _&&_}
+use mathlib.Core.List.{List, _++_}
+use mathlib.Core.Option.{Option, none, some}
+use Prim.Native.Nat.{ℕ, zero, suc, _+_, _*_, _/_, _%_, _≤_, _<_}
+use native.Mathlib.Nat.{mod-add-div', mod-lt, mod-eq-of-lt, add-mul-mod-self-right, div-lt-iff-lt-mul, mul-le-mul-right}
+use native.Mathlib.Omega.{arith}
+use borrow.Author.Tests.{leb-true, le-leb}
+use lib.Dec.{leb}
+use lib.IntN.{ℤ, pos, negsuc}
+use lib.ListN.{replicate, drop}
+use Rattle.whole.specs.Lists.{at, first}
+use Rattle.whole.specs.Checks.{accept, refuse, then, unless, unless-at}
+use Rattle.whole.proofs.Counts.{first-none, none-first}
+use Rattle.itx_1d.specs.Calls.{acceptance}
+use Rattle.bitdepth.specs.declared.Depth.{Depth}
+use Rattle.bitdepth.specs.Depths.{depth, maximum}
+use Rattle.levels.specs.declared.Plan.{Plan}
+use Rattle.levels.proofs.Sizes.{Sided, side-bounds, plan-sided}
+use Rattle.residual.specs.Blocks.{way, residual}
+use Rattle.coefs.specs.Coefs.{nonzero}
+use Rattle.pixels.specs.Adds.{add-pixel}
+use Rattle.itx.specs.Calls.{Block, Call, plain, live, bad-rows, stray, checks, verdict, Outcome, short, live-rows, by-shortcut, by-passes, outcome-of, outcome}
+use Rattle.coefs.specs.Coefs.{Covers}
+use Rattle.itx.proofs.LiveRows.{quiet, residual-same, marked-same}
+use Rattle.itx.proofs.Pixels.{rows-ext}
+use Rattle.itx.proofs.Verdicts.{Accepted, accepting}
+
+-- ---- covering, by rows and by places
+
+is-zero : (z : ℤ) → nonzero z ≡ false → z ≡ pos 0
+is-zero (pos zero) e = refl
+is-zero (pos (suc n)) e = let z : _≡_ {A = ℕ} 0 1 = cc in let f : ⊥ = omega arith in absurd f
+is-zero (negsuc n) e = let z : _≡_ {A = ℕ} 0 1 = cc in let f : ⊥ = omega arith in absurd f
+
+module _ (w h : ℕ) (h-pos : 0 < h) (c : List ℤ) (r : ℕ) where
+  no-stray : Covers w h c r → (i : ℕ) → i < w * h → stray (live r) h c i ≡ false
+  no-stray covers i l = go (leb r (i % h)) refl
+    where
+      go : (t : Bool) → leb r (i % h) ≡ t → t && nonzero (at c i) ≡ false
+      go false e = refl
+      go true e =
+          ap (λ (j : ℕ). nonzero (at c j)) (sym (mod-add-div' i h))
+          ∙ ap nonzero (covers (i % h) (i / h) (leb-true r (i % h) e) (mod-lt i h-pos) (div-lt-iff-lt-mul h-pos .1 l))
+
+  pub strays-none : Covers w h c r → first (w * h) (stray (live r) h c) ≡ none
+  strays-none covers = none-first (w * h) (stray (live r) h c) (no-stray covers)
+
+  pub covers-of : first (w * h) (stray (live r) h c) ≡ none → Covers w h c r
+  covers-of e y x a b l =
+      let j : y + x * h < w * h = omega (arith, mul-le-mul-right {m = suc x} {n = w} h l) in
+      let m : (y + x * h) % h ≡ y = add-mul-mod-self-right y x h ∙ mod-eq-of-lt b in
+      let s = first-none (w * h) (stray (live r) h c) e (y + x * h) j in
+      is-zero (at c (y + x * h)) (sym (ap (λ (t : Bool). t && nonzero (at c (y + x * h))) (ap (leb r) m ∙ le-leb r y a)) ∙ s)
+
+second-true : (s t : Bool) → not (s && t) ≡ false → t ≡ true
+second-true true true e = refl
+second-true true false e = sym e
+second-true false true e = refl
+second-true false false e = sym e
+
+pub live-inside : (call : Call) (b : Block) (p : Plan) (d : Depth) → Accepted call b p d → live-rows call p ≤ p .h
+live-inside (plain e) b p d a = omega arith
+live-inside (live r) b p d a = leb-true r (p .h) (second-true (leb 1 r) (leb r (p .h)) (a .rows))
+
+-- ---- the theorems, for a block that the plain call accepts
+
+module _ (b : Block) (p : Plan) (d : Depth) where
+  -- all rows passed over
+  abbrev pub whole : Outcome
+  whole = by-passes b p d (way p d) (p .h)
+
+  pub rows-whole : (r : ℕ) → Sided (p .w) → r ≤ p .h → Covers (p .w) (p .h) (b .coefs) r → by-passes b p d (way p d) r ≡ whole
+  rows-whole r s l k =
+      let 𝓦 = way p d in
+      let n = p .w * p .h in
+      let rs = residual 𝓦 (b .coefs) in
+      λ i. record {
+        answer = acceptance (marked-same 𝓦 (quiet p d s) (b .coefs) r l k i);
+        pixels = rows-ext (b .plane) (maximum d) (rs r) (rs (p .h)) (p .w) (p .h) (λ y x g f. ap (add-pixel (maximum d) _) (residual-same 𝓦 (quiet p d s) (b .coefs) r l k y x)) i;
+        coefs = replicate n (pos 0) ++ drop n (b .coefs);
+      }
+
+  module _ (call : Call) (a : Accepted call b p d) where
+    pub sides : Sided (p .w) × Sided (p .h)
+    sides = plan-sided (b .w) (b .h) (b .type) p (a .planned)
+
+    pub h-positive : 0 < p .h
+    h-positive = omega (arith, side-bounds (p .h) (sides .1) .0)
+
+    pub area-positive : 0 < p .w * p .h
+    area-positive = omega (arith, mul-le-mul-right {m = 1} {n = p .w} (p .h) (omega (arith, side-bounds (p .w) (sides .0) .0)), h-positive)
+
+    pub opened : outcome call b ≡ outcome-of way call b (accept (p, d))
+    unfolding outcome
+    opened = ap (outcome-of way call b) (accepting call b p d a)
+
+  pub live-whole : (r : ℕ) → Accepted (live r) b p d → outcome (live r) b ≡ whole
+  live-whole r a =
+      opened (live r) a
+      ∙ rows-whole r (sides (live r) a .0) (live-inside (live r) b p d a) (covers-of (p .w) (p .h) (h-positive (live r) a) (b .coefs) r (a .covered))
+
+  pub plain-whole : (n : ℕ) → Accepted (plain (pos (suc n))) b p d → outcome (plain (pos (suc n))) b ≡ whole
+  plain-whole n a = opened (plain (pos (suc n))) a
+
+  -- eob 0 with another type than DCT_DCT takes the long way too
+  pub zero-whole : short (plain (pos 0)) p ≡ false → Accepted (plain (pos 0)) b p d → outcome (plain (pos 0)) b ≡ whole
+  zero-whole e a = opened (plain (pos 0)) a ∙ ap (λ (t : Bool). cond t (by-shortcut b p d) whole) e
+
+  module _ (good : Accepted (plain (pos 0)) b p d) where
+    -- with any eob, and with any covering count
+    pub with-eob : (n : ℕ) → Accepted (plain (pos n)) b p d
+    with-eob n = record { planned = good .planned; deep = good .deep; eob = refl; rows = refl; enough = good .enough; stride = good .stride; inside = good .inside; ranged = good .ranged; covered = good .covered }
+
+    pub with-rows : (r : ℕ) → 1 ≤ r → r ≤ p .h → Covers (p .w) (p .h) (b .coefs) r → Accepted (live r) b p d
+    with-rows r g l k = record {
+      planned = good .planned;
+      deep = good .deep;
+      eob = refl;
+      rows = λ i. not (le-leb 1 r g i && le-leb r (p .h) l i);
+      enough = good .enough;
+      stride = good .stride;
+      inside = good .inside;
+      ranged = good .ranged;
+      covered = strays-none (p .w) (p .h) (h-positive (plain (pos 0)) good) (b .coefs) r k;
+    }
+
+    -- what is left of the checks of a live-row call
+    live-checks : (r : ℕ) → verdict (live r) b ≡ unless (bad-rows (live r) (p .h)) 5 (unless-at (first (p .w * p .h) (stray (live r) (p .h) (b .coefs))) 10 (accept (p, d)))
+    live-checks r =
+        ap (λ c. then c (λ p. then (depth (b .depth)) (checks (live r) b p))) (good .planned) ∙ ap (λ c. then c (checks (live r) b p)) (good .deep)
+        ∙ (λ j. unless (bad-rows (live r) (p .h)) 5 (unless (good .enough j) 6 (unless (good .stride j) 7 (unless (good .inside j) 8 (unless-at (good .ranged j) 9
+        (unless-at (first (p .w * p .h) (stray (live r) (p .h) (b .coefs))) 10 (accept (p, d))))))))
+
+    -- a count in the bounds that does not cover is refused as stray, at the first stray's place
+    pub stray-at : (r i : ℕ) → 1 ≤ r → r ≤ p .h → first (p .w * p .h) (stray (live r) (p .h) (b .coefs)) ≡ some i
+        → outcome (live r) b ≡ outcome-of way (live r) b (refuse 10 i)
+    unfolding outcome
+    stray-at r i g l e =
+        ap (outcome-of way (live r) b) (live-checks r ∙ (λ j. unless (not (le-leb 1 r g j && le-leb r (p .h) l j)) 5 (unless-at (e j) 10 (accept (p, d)))))
+
+    pub stray-refused : (r : ℕ) → 1 ≤ r → r ≤ p .h → (Covers (p .w) (p .h) (b .coefs) r → ⊥) → outcome (live r) b .answer .number ≡ 10
+    stray-refused r g l f = go (first (p .w * p .h) (stray (live r) (p .h) (b .coefs))) refl
+      where
+        go : (o : Option ℕ) → first (p .w * p .h) (stray (live r) (p .h) (b .coefs)) ≡ o → outcome (live r) b .answer .number ≡ 10
+        go none e = absurd (f (covers-of (p .w) (p .h) (h-positive (plain (pos 0)) good) (b .coefs) r e))
+        go (some i) e = ap (λ (o : Outcome). o .answer .number) (stray-at r i g l e)
+
+    -- and a count that covers is not, whatever its bounds
+    pub not-stray : (r : ℕ) → Covers (p .w) (p .h) (b .coefs) r → outcome (live r) b .answer .number ≡ 10 → ⊥
+    unfolding outcome
+    not-stray r k e = go (bad-rows (live r) (p .h)) (sym (ap (λ v. outcome-of way (live r) b v .answer .number) steps) ∙ e)
+      where
+        steps : verdict (live r) b ≡ unless (bad-rows (live r) (p .h)) 5 (accept (p, d))
+        steps = live-checks r ∙ (λ j. unless (bad-rows (live r) (p .h)) 5 (unless-at (strays-none (p .w) (p .h) (h-positive (plain (pos 0)) good) (b .coefs) r k j) 10 (accept (p, d))))
+
+        go : (t : Bool) → outcome-of way (live r) b (unless t 5 (accept (p, d))) .answer .number ≡ 10 → ⊥
+        go true f = omega arith
+        go false f = omega arith

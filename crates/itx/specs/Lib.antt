@@ -1,0 +1,3 @@
+-- What the two-dimensional transform is.
+pub mod Calls
+pub mod Av1

@@ -1,0 +1,1 @@
+// The two-dimensional transform of src/itx.rs.

@@ -1,0 +1,3 @@
+-- Laws of the plan.
+pub mod Sizes
+pub mod Unique

@@ -1,0 +1,66 @@
+use mathlib.Core.Path.{_≡_, sym, ap, _∙_}
+use Prim.Native.Nat.{ℕ}
+use borrow.Author.Needs.{needs}
+use Rattle.whole.specs.Checks.{accept, then}
+use Rattle.levels.specs.declared.TypeCheck.{TypeCheck}
+use Rattle.levels.specs.declared.TypeCheck.the-variants.{Kinds, NoKinds}
+use Rattle.levels.specs.Plans.{shift-check, shift-of, kinds-check, kinds-of, with-kinds, with-shift, plan}
+use Rattle.levels.proofs.Sizes.{side-bounds, shift-sided, plan-by}
+use Rattle.levels.proofs.Plan.of.Statement.{statement}
+use Rattle.levels.proofs.Plan.of.Tie as tie
+
+size-shift-requires : tie.Need-size-shift-requires
+size-shift-requires c κs = search needs
+
+enum-known-shift : tie.Need-enum-known-shift
+enum-known-shift c = search needs
+
+enum-told : tie.Need-enum-told
+enum-told c = search needs
+
+returns : tie.Need-returns
+returns c =
+    let a = c .before .before .before .args in
+    ap (λ s. then s (with-shift (a .w) (a .h) (a .txtp))) (sym (ap shift-check (c .enum-told .given .1)) ∙ c .before .before .size-shift .ensures)
+
+module _ (c : tie.After-known-told) where
+  abbrev w : ℕ
+  w = c .before .before .before .before .args .w
+
+  abbrev h : ℕ
+  h = c .before .before .before .before .args .h
+
+  abbrev type : ℕ
+  type = c .before .before .before .before .args .txtp
+
+  abbrev shift : ℕ
+  shift = c .before .shift .given .0 .0
+
+  -- the size has the shift that was bound
+  shift-is : shift-of w h ≡ accept shift
+  shift-is = sym (c .before .before .before .size-shift .ensures) ∙ ap shift-check (c .before .shift .given .1)
+
+  decided : (t : TypeCheck) → kinds-check t ≡ kinds-of w h type → then (kinds-check t) (with-kinds w h shift) ≡ plan w h type
+  decided t e = plan-by w h type shift (kinds-check t) shift-is e
+
+type-kinds-requires : tie.Need-type-kinds-requires
+type-kinds-requires c κs =
+    let s = shift-sided (w c) (h c) (shift c) (shift-is c) in
+    (side-bounds (w c) (s .0) .1, side-bounds (h c) (s .1) .1)
+
+enum-known-rows : tie.Need-enum-known-rows
+enum-known-rows c = search needs
+
+enum-told-2 : tie.Need-enum-told-2
+enum-told-2 c = search needs
+
+returns-2 : tie.Need-returns-2
+returns-2 c = decided (c .before .before .before) NoKinds (ap kinds-check (sym (c .enum-told2 .given .1)) ∙ c .before .before .type-kinds .ensures)
+
+returns-3 : tie.Need-returns-3
+returns-3 c =
+    let f = c .before .rows .given in
+    decided (c .before .before .before .before) (Kinds (f .0 .0) (f .0 .1 .0)) (ap kinds-check (sym (f .1)) ∙ c .before .before .before .type-kinds .ensures)
+
+pub of-spec : {M : Type 1} → statement M
+of-spec = tie.close (tie.spec size-shift-requires enum-known-shift enum-told returns type-kinds-requires enum-known-rows enum-told-2 returns-2 returns-3)

@@ -1,0 +1,36 @@
+-- No second answer meets the contract of size_shift, or of Plan::of.
+use mathlib.Core.Path.{_≡_, refl}
+use mathlib.Core.Bool.{cond}
+use Prim.Native.Nat.{ℕ}
+use lib.Dec.{eqb}
+use Rattle.whole.specs.Checks.{Check, accept, refuse}
+use Rattle.whole.proofs.Checks.{one-answer}
+use Rattle.levels.specs.declared.Decision.{Decision}
+use Rattle.levels.specs.declared.Decision.the-variants.{Planned, NoSize, NoType}
+use Rattle.levels.specs.declared.Plan.{Plan}
+use Rattle.levels.specs.declared.SizeCheck.{SizeCheck}
+use Rattle.levels.specs.declared.SizeCheck.the-variants.{Shift, NoShift}
+use Rattle.levels.specs.Plans.{shift-check, shift-of, decision-of, plan}
+
+abbrev shift-back : Check ℕ → SizeCheck
+shift-back (accept s) = Shift s
+shift-back (refuse n i) = NoShift
+
+shift-back-is : (r : SizeCheck) → shift-back (shift-check r) ≡ r
+shift-back-is (Shift s) = refl
+shift-back-is NoShift = refl
+
+pub one-shift : (w h : ℕ) (r r′ : SizeCheck) → shift-check r ≡ shift-of w h → shift-check r′ ≡ shift-of w h → r ≡ r′
+one-shift w h r r′ = one-answer shift-check shift-back shift-back-is
+
+abbrev plan-back : Check Plan → Decision
+plan-back (accept p) = Planned p
+plan-back (refuse n i) = cond (eqb n 1) NoSize NoType
+
+plan-back-is : (r : Decision) → plan-back (decision-of r) ≡ r
+plan-back-is (Planned p) = refl
+plan-back-is NoSize = refl
+plan-back-is NoType = refl
+
+pub one-plan : (w h type : ℕ) (r r′ : Decision) → decision-of r ≡ plan w h type → decision-of r′ ≡ plan w h type → r ≡ r′
+one-plan w h type r r′ = one-answer decision-of plan-back plan-back-is

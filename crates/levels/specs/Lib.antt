@@ -1,0 +1,2 @@
+-- What size and type decide.
+pub mod Plans

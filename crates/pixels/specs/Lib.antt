@@ -1,0 +1,2 @@
+-- What is added to the pixels.
+pub mod Adds

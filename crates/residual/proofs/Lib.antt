@@ -1,0 +1,9 @@
+-- Laws of the residual.
+pub mod WhtOrNot
+pub mod Lines
+pub mod Fills
+pub mod Places
+pub mod Steps
+pub mod Small
+pub mod Whole
+pub mod Ends

@@ -1,0 +1,108 @@
+-- A pass on the elements from, from + s, .. of a list, lent as the part of the list from `from` on: a row has s = 1, a column the width.
+use mathlib.Core.Path.{_≡_, refl, sym, ap, _∙_, subst}
+use mathlib.Core.Logic.{_≢_}
+use mathlib.Core.Bool.{Bool, true, false}
+use mathlib.Core.List.{List, _++_}
+use Prim.Native.Nat.{ℕ, _+_, _*_, _-_, _≤_, _<_}
+use native.Mathlib.Omega.{arith}
+use borrow.Author.Tests.{ltb-true, ltb-false}
+use borrow.Rule.Slice.PartMut.{putMid, postOf, same-len-mid}
+use lib.Dec.{ltb}
+use lib.IntN.{ℤ, pos, natAbs}
+use lib.ListN.{length, take, drop, length-drop, List·getD-append, List·getD-eq-default}
+use lib.Seq.{getD-take, getD-drop, length-take-le, getD-append-add}
+use Rattle.whole.specs.Lists.{at, tab}
+use Rattle.whole.proofs.Counts.{tab-ext}
+use Rattle.av1.specs.Sides.{len}
+use Rattle.itx_1d.specs.declared.Kind.{Kind}
+use Rattle.itx_1d.specs.Passes.{Passed, pass}
+use Rattle.itx_1d.specs.Calls.{taken, put}
+use Rattle.itx_1d.specs.Inner.{sided, PassIs, Reaches, Passable}
+use Rattle.itx_1d.proofs.Strides.{length-put, kept, put-at, not-0}
+
+-- the part of t from x on
+abbrev pub part : List ℤ → ℕ → List ℤ
+part t x = take (length t - x) (drop x t)
+
+part-at : (t : List ℤ) (x k : ℕ) → x + k < length t → at (part t x) k ≡ at t (x + k)
+part-at t x k l = getD-take (length t - x) (drop x t) k (pos 0) (omega arith) ∙ getD-drop x t k (pos 0)
+
+part-length : (t : List ℤ) (x : ℕ) → length (part t x) ≡ length t - x
+part-length t x = length-take-le (length t - x) (drop x t) (omega (arith, length-drop x t))
+
+-- the part d put back
+abbrev pub back : List ℤ → ℕ → List ℤ → List ℤ
+back t x d = putMid x (length t - x) t d
+
+module _ (t d : List ℤ) (x : ℕ) (b : x ≤ length t) where
+  back-before : (j : ℕ) → j < x → at (back t x d) j ≡ at t j
+  back-before j l = List·getD-append (take x t) (d ++ postOf x (length t - x) t) (pos 0) j (omega (arith, length-take-le x t b)) ∙ getD-take x t j (pos 0) l
+
+  back-from : (k : ℕ) → k < length d → at (back t x d) (x + k) ≡ at d k
+  back-from k l =
+      ap (λ (n : ℕ). at (back t x d) (n + k)) (sym (length-take-le x t b))
+      ∙ getD-append-add (take x t) (d ++ postOf x (length t - x) t) k (pos 0)
+      ∙ List·getD-append d (postOf x (length t - x) t) (pos 0) k l
+
+abbrev pub line : ℕ → ℕ → ℕ → List ℤ → List ℤ
+line from s n u = tab n (λ j. at u (from + j * s))
+
+module _ (from s n : ℕ) (u : List ℤ) (is-length : len (sided n) ≡ n) (some : 0 < s) (reach : (j : ℕ) → j < n → from + j * s < length u) where
+  line-at : (j : ℕ) → j < n → at (part u from) (j * s) ≡ at u (from + j * s)
+  line-at j l = part-at u from (j * s) (reach j l)
+
+  line-inside : (j : ℕ) → j < n → j * s < length (part u from)
+  line-inside j l = omega (arith, reach j l, part-length u from)
+
+  -- what a pass on the part asks
+  pub passable : (most : ℕ) → ((j : ℕ) → j < n → natAbs (at u (from + j * s)) ≤ most) → Passable (part u from) s n most
+  passable most f = record {
+    reaches = record { is-length = is-length; some-stride = some; inside = line-inside };
+    small = λ j l. subst (λ (z : ℤ). natAbs z ≤ most) (sym (line-at j l)) (f j l);
+  }
+
+  taken-is : taken (part u from) s n ≡ line from s n u
+  taken-is = tab-ext n (λ j. at (part u from) (j * s)) (λ j. at u (from + j * s)) line-at
+
+  from-inside : from ≤ length u
+  from-inside = omega (arith, reach 0 (not-0 n is-length))
+
+  -- what it gives
+  module _ (kind : Kind) (m : ℕ) (d : List ℤ) (r : Bool) (done : PassIs kind n s m (part u from) d r) where
+    abbrev values : List ℤ
+    values = pass kind (sided n) m (taken (part u from) s n) .values
+
+    d-length : length d ≡ length u - from
+    d-length = ap length (done .elements) ∙ length-put (part u from) s values n ∙ part-length u from
+
+    pub line-own : (j : ℕ) → j < n → at (back u from d) (from + j * s) ≡ at (pass kind (sided n) m (line from s n u) .values) j
+    line-own j l =
+        back-from u d from from-inside (j * s) (omega (arith, d-length, reach j l))
+        ∙ ap (λ (xs : List ℤ). at xs (j * s)) (done .elements)
+        ∙ put-at (part u from) s values some n j l line-inside
+        ∙ ap (λ (xs : List ℤ). at (pass kind (sided n) m xs .values) j) taken-is
+
+    pub line-length : length (back u from d) ≡ length u
+    line-length = same-len-mid from (length u - from) u d (ap length (done .elements) ∙ length-put (part u from) s values n)
+
+    pub line-kept : (i : ℕ) → ((j : ℕ) → j < n → i ≢ from + j * s) → at (back u from d) i ≡ at u i
+    line-kept i f = go (ltb i (length u)) (ltb i from) refl refl
+      where
+        go : (a b : Bool) → ltb i (length u) ≡ a → ltb i from ≡ b → at (back u from d) i ≡ at u i
+        go false b e g =
+            let q : length u ≤ i = ltb-false _ _ e in
+            List·getD-eq-default (back u from d) (pos 0) (omega (arith, line-length)) ∙ sym (List·getD-eq-default u (pos 0) q)
+        go true true e g = back-before u d from from-inside i (ltb-true _ _ g)
+        go true false e g =
+            let h : i < length u = ltb-true _ _ e in
+            let q : from ≤ i = ltb-false _ _ g in
+            let p : i ≡ from + (i - from) = omega arith in
+            ap (at (back u from d)) p
+            ∙ back-from u d from from-inside (i - from) (omega (arith, d-length))
+            ∙ ap (λ (xs : List ℤ). at xs (i - from)) (done .elements)
+            ∙ kept (part u from) s values some n (i - from) (λ j v z. f j v (omega arith))
+            ∙ part-at u from (i - from) (omega arith)
+            ∙ ap (at u) (sym p)
+
+    pub line-mark : r ≡ pass kind (sided n) m (line from s n u) .mark
+    line-mark = done .mark ∙ ap (λ (xs : List ℤ). pass kind (sided n) m xs .mark) taken-is

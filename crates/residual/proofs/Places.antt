@@ -1,0 +1,34 @@
+-- Where the elements of a block stand.
+use mathlib.Core.Path.{_≡_, sym, ap, _∙_}
+use Prim.Native.Nat.{ℕ, suc, _+_, _*_, _%_, _≤_, _<_}
+use native.Mathlib.Nat.{mul-le-mul-right, mul-le-mul, le-trans, add-mul-mod-self-right, mod-eq-of-lt}
+use native.Mathlib.Omega.{arith}
+use Rattle.levels.specs.declared.Plan.{Plan}
+use Rattle.itx_1d.proofs.Strides.{at-most-32}
+use Rattle.residual.specs.Inner.{Sized}
+
+-- row y, column x, column by column and row by row
+pub by-column : (w h y x : ℕ) → y < h → x < w → y + x * h < w * h
+by-column w h y x l g = omega (arith, mul-le-mul-right {m = suc x} {n = w} h g)
+
+pub by-row : (w h y x : ℕ) → y < h → x < w → y * w + x < h * w
+by-row w h y x l g = omega (arith, mul-le-mul-right {m = suc y} {n = h} w l)
+
+module _ (p : Plan) (s : Sized p) where
+  pub w-small : p .w ≤ 32
+  w-small = at-most-32 (p .w) (s .width)
+
+  pub h-small : p .h ≤ 32
+  h-small = at-most-32 (p .h) (s .height)
+
+  pub area : p .h * p .w ≤ 1024
+  area = mul-le-mul h-small w-small
+
+  pub in-block : (y x : ℕ) → y < p .h → x < p .w → y * p .w + x < 1024
+  in-block y x l g = omega (arith, by-row (p .w) (p .h) y x l g, area)
+
+-- a place in w-wide rows tells its column
+pub same-column : (w y u i x : ℕ) → i < w → x < w → y * w + i ≡ u * w + x → i ≡ x
+same-column w y u i x l g e =
+    let p : i + y * w ≡ x + u * w = omega arith in
+    sym (add-mul-mod-self-right i y w ∙ mod-eq-of-lt l) ∙ ap (λ (n : ℕ). n % w) p ∙ add-mul-mod-self-right x u w ∙ mod-eq-of-lt g

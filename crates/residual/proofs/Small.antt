@@ -1,0 +1,37 @@
+-- Every number of a block fits with room to spare.
+use mathlib.Core.Path.{_≡_, refl, subst⁻¹}
+use mathlib.Core.Bool.{Bool, true, false, cond, _||_}
+use mathlib.Core.List.{List, [], _∷_}
+use Prim.Native.Nat.{ℕ, _+_, _*_, _≤_}
+use native.Mathlib.Nat.{le-trans}
+use native.Mathlib.Omega.{arith}
+use lib.Dec.{eqb, lit≤}
+use lib.IntN.{ℤ, pos, _*ℤ_, natAbs}
+use Rattle.whole.specs.Numbers.{_>>_, round2, clip}
+use Rattle.whole.proofs.Clips.{clip-abs}
+use Rattle.whole.proofs.Machine.{var, lit, _⊕_, _⊛_, _≫_, bound}
+use Rattle.levels.specs.declared.Plan.{Plan}
+use Rattle.itx_1d.specs.declared.Kind.{Kind}
+use Rattle.itx_1d.specs.declared.Kind.the-variants.{Dct, Identity, Wht}
+use Rattle.itx_1d.specs.Inner.{most}
+use Rattle.residual.specs.Blocks.{if-wht, prescale}
+use Rattle.residual.specs.Inner.{entering}
+
+prescaled : (w h : ℕ) (v : ℤ) → natAbs v ≤ 524288 → natAbs (prescale w h v) ≤ 524288
+unfolding prescale Rattle.whole.specs.Numbers.round2 Rattle.whole.specs.Numbers._>>_
+prescaled w h v l = go (eqb (w * 2) h || eqb (h * 2) w)
+  where
+    go : (t : Bool) → natAbs (cond t (round2 (v *ℤ pos 181) 8) v) ≤ 524288
+    go true = le-trans (bound (v ∷ []) (524288 ∷ []) (l, tt) (var 0 ⊛ lit (pos 181) ⊕ lit (pos 128) ≫ 8)) (lit≤ tt)
+    go false = l
+
+pub entering-small : (k : Kind) (w h : ℕ) (v : ℤ) → natAbs v ≤ 524288 → natAbs (entering k w h v) ≤ 524288
+unfolding Rattle.whole.specs.Numbers._>>_
+entering-small Wht w h v l = le-trans (bound (v ∷ []) (524288 ∷ []) (l, tt) (var 0 ≫ 2)) (lit≤ tt)
+entering-small Dct w h v l = prescaled w h v l
+entering-small Identity w h v l = prescaled w h v l
+
+pub at-most : (k : Kind) → 524288 ≤ most k
+at-most Dct = lit≤ tt
+at-most Identity = lit≤ tt
+at-most Wht = lit≤ tt

@@ -1,0 +1,102 @@
+-- One row, and one column, more.
+use mathlib.Core.Path.{_≡_, refl, sym, ap, _∙_, subst⁻¹}
+use mathlib.Core.Logic.{_≢_}
+use mathlib.Core.Bool.{Bool}
+use mathlib.Core.List.{List}
+use Prim.Native.Nat.{ℕ, suc, _+_, _*_, _≤_, _<_}
+use native.Mathlib.Nat.{mul-le-mul-right}
+use native.Mathlib.Omega.{arith}
+use lib.IntN.{ℤ, pos, natAbs}
+use lib.ListN.{length}
+use Rattle.whole.specs.Lists.{at, tab}
+use Rattle.whole.proofs.Counts.{tab-ext, last-or-less}
+use Rattle.av1.specs.Sides.{len}
+use Rattle.itx_1d.specs.declared.Kind.{Kind}
+use Rattle.itx_1d.specs.Passes.{pass}
+use Rattle.itx_1d.specs.Inner.{sided, PassIs, Passable}
+use Rattle.residual.specs.Inner.{fill, Holds, column-made, Columned}
+use Rattle.residual.proofs.Fills.{fill-length, fill-before, fill-after, fill-own}
+use Rattle.residual.proofs.Lines.{part, back, line, passable, line-own, line-kept, line-length, line-mark}
+use Rattle.residual.proofs.Places.{by-row, same-column}
+
+-- ---- rows: t holds y rows, and u has row y loaded with e besides
+
+module _ (w y : ℕ) (g : ℕ → ℕ → ℤ) (e : ℕ → ℤ) (t u : List ℤ) (is-length : len (sided w) ≡ w) (room : suc y * w ≤ 1024) (so-far : Holds w y g t) (loaded : u ≡ fill t (y * w) e w) where
+  u-long : length u ≡ 1024
+  u-long = ap length loaded ∙ fill-length t (y * w) e w ∙ so-far .long
+
+  reach : (j : ℕ) → j < w → y * w + j * 1 < length u
+  reach j l = omega (arith, u-long, room)
+
+  own : (j : ℕ) → j < w → at u (y * w + j * 1) ≡ e j
+  own j l = ap (at u) (omega arith) ∙ ap (λ (s : List ℤ). at s (y * w + j)) loaded ∙ fill-own t (y * w) e w j (omega (arith, so-far .long, room)) l
+
+  pub row-passable : (most : ℕ) → ((x : ℕ) → x < w → natAbs (e x) ≤ most) → Passable (part u (y * w)) 1 w most
+  row-passable most f = passable (y * w) 1 w u is-length (omega arith) reach most (λ j l. subst⁻¹ (λ (z : ℤ). natAbs z ≤ most) (own j l) (f j l))
+
+  line-is : line (y * w) 1 w u ≡ tab w e
+  line-is = tab-ext w (λ j. at u (y * w + j * 1)) e own
+
+  module _ (kind : Kind) (m : ℕ) (d : List ℤ) (r : Bool) (done : PassIs kind w 1 m (part u (y * w)) d r) (made : (x : ℕ) → g y x ≡ at (pass kind (sided w) m (tab w e) .values) x) where
+    outside-row : (i : ℕ) → ((j : ℕ) → j < w → i ≢ y * w + j * 1) → at (back u (y * w) d) i ≡ at u i
+    outside-row i f = line-kept (y * w) 1 w u is-length (omega arith) reach kind m d r done i f
+
+    this-row : (x : ℕ) → x < w → at (back u (y * w) d) (y * w + x) ≡ g y x
+    this-row x l =
+        ap (at (back u (y * w) d)) (omega arith)
+        ∙ line-own (y * w) 1 w u is-length (omega arith) reach kind m d r done x l
+        ∙ ap (λ (s : List ℤ). at (pass kind (sided w) m s .values) x) line-is
+        ∙ sym (made x)
+
+    before-row : (i : ℕ) → i < y * w → at (back u (y * w) d) i ≡ at t i
+    before-row i l = outside-row i (λ j v z. omega arith) ∙ ap (λ (s : List ℤ). at s i) loaded ∙ fill-before t (y * w) e w i l
+
+    after-row : (i : ℕ) → suc y * w ≤ i → at (back u (y * w) d) i ≡ at t i
+    after-row i l = outside-row i (λ j v z. omega arith) ∙ ap (λ (s : List ℤ). at s i) loaded ∙ fill-after t (y * w) e w i (omega arith)
+
+    pub row-more : Holds w (y + 1) g (back u (y * w) d)
+    row-more = record {
+      rows = λ v x l h. last-or-less v y (λ (i : ℕ). at (back u (y * w) d) (i * w + x) ≡ g i x) (omega arith) (this-row x h)
+          (λ k. before-row (v * w + x) (omega (arith, mul-le-mul-right {m = suc v} {n = y} w k)) ∙ so-far .rows v x k h);
+      rest = λ i l. after-row i (omega arith) ∙ so-far .rest i (omega arith);
+      long = line-length (y * w) 1 w u is-length (omega arith) reach kind m d r done ∙ u-long;
+    }
+
+    pub row-mark : r ≡ pass kind (sided w) m (tab w e) .mark
+    row-mark = line-mark (y * w) 1 w u is-length (omega arith) reach kind m d r done ∙ ap (λ (s : List ℤ). pass kind (sided w) m s .mark) line-is
+
+-- ---- columns: u has its first x columns passed
+
+module _ (kind : Kind) (m w h x : ℕ) (t u : List ℤ) (is-length : len (sided h) ≡ h) (x<w : x < w) (room : h * w ≤ 1024) (so-far : Columned kind m w h t x u) where
+  column-reach : (j : ℕ) → j < h → x + j * w < length u
+  column-reach j l = omega (arith, so-far .long, by-row w h j x l x<w, room)
+
+  waits : (j : ℕ) → j < h → at u (x + j * w) ≡ at t (j * w + x)
+  waits j l = ap (at u) (omega arith) ∙ so-far .waiting j x l (omega arith) x<w
+
+  pub column-passable : (most : ℕ) → ((i : ℕ) → natAbs (at t i) ≤ most) → Passable (part u x) w h most
+  column-passable most f = passable x w h u is-length (omega arith) column-reach most (λ j l. subst⁻¹ (λ (z : ℤ). natAbs z ≤ most) (waits j l) (f (j * w + x)))
+
+  column-is : line x w h u ≡ tab h (λ y. at t (y * w + x))
+  column-is = tab-ext h (λ j. at u (x + j * w)) (λ y. at t (y * w + x)) waits
+
+  module _ (d : List ℤ) (r : Bool) (done : PassIs kind h w m (part u x) d r) where
+    others : (y i : ℕ) → i < w → i ≢ x → at (back u x d) (y * w + i) ≡ at u (y * w + i)
+    others y i g f = line-kept x w h u is-length (omega arith) column-reach kind m d r done (y * w + i) (λ j v z. f (same-column w y j i x g x<w (omega arith)))
+
+    this-column : (y : ℕ) → y < h → at (back u x d) (y * w + x) ≡ at (column-made kind m w h t x .values) y
+    this-column y l =
+        ap (at (back u x d)) (omega arith)
+        ∙ line-own x w h u is-length (omega arith) column-reach kind m d r done y l
+        ∙ ap (λ (s : List ℤ). at (pass kind (sided h) m s .values) y) column-is
+
+    pub column-more : Columned kind m w h t (x + 1) (back u x d)
+    column-more = record {
+      passed = λ y i l g. last-or-less i x (λ (j : ℕ). at (back u x d) (y * w + j) ≡ at (column-made kind m w h t j .values) y) (omega arith) (this-column y l)
+          (λ k. others y i (omega arith) (λ z. omega arith) ∙ so-far .passed y i l k);
+      waiting = λ y i l k g. others y i g (λ z. omega arith) ∙ so-far .waiting y i l (omega arith) g;
+      long = line-length x w h u is-length (omega arith) column-reach kind m d r done ∙ so-far .long;
+    }
+
+    pub column-mark : r ≡ column-made kind m w h t x .mark
+    column-mark = line-mark x w h u is-length (omega arith) column-reach kind m d r done ∙ ap (λ (s : List ℤ). pass kind (sided h) m s .mark) column-is

@@ -1,0 +1,140 @@
+-- The scratch block through the steps: rows, rounding, columns.
+use mathlib.Core.Path.{_≡_, refl, sym, ap, ap₂, _∙_, subst, subst⁻¹}
+use mathlib.Core.Bool.{Bool, true, false, cond, _||_}
+use mathlib.Core.List.{List}
+use Prim.Native.Nat.{ℕ, zero, suc, _+_, _*_, _/_, _%_, _≤_, _<_}
+use native.Mathlib.Nat.{le-trans, div-add-mod', div-lt-iff-lt-mul, mod-lt, mul-le-mul-right}
+use native.Mathlib.Omega.{arith}
+use borrow.Author.Tests.{ltb-true, ltb-false}
+use lib.Dec.{ltb, lit≤}
+use lib.IntN.{ℤ, pos, natAbs}
+use lib.ListN.{length}
+use Rattle.whole.specs.Numbers.{round2, clip, low, high}
+use Rattle.whole.specs.Lists.{at, tab, any}
+use Rattle.whole.proofs.Clips.{clip-abs}
+use Rattle.whole.proofs.Counts.{tab-ext, any-ext}
+use Rattle.itx_1d.specs.declared.Kind.{Kind}
+use Rattle.itx_1d.specs.declared.Kind.the-variants.{Dct, Identity, Wht}
+use Rattle.itx_1d.specs.Passes.{Passed, pass}
+use Rattle.itx_1d.specs.Inner.{sided, most}
+use Rattle.itx_1d.proofs.PassLaws.{pass-small}
+use Rattle.itx_1d.proofs.Strides.{not-0}
+use Rattle.bitdepth.specs.declared.Depth.{Depth}
+use Rattle.bitdepth.specs.declared.Depth.the-variants.{Eight, Ten, Twelve}
+use Rattle.bitdepth.specs.Depths.{row-range, column-range}
+use Rattle.levels.specs.declared.Plan.{Plan}
+use Rattle.residual.specs.Blocks.{way, row, middle, column, marked, if-wht}
+use Rattle.residual.specs.Inner.{fill, rounding, loaded, row-made, RowsAre, Holds, column-made, ColumnsAre, Sized, Coefs, Resolved}
+use Rattle.residual.proofs.Fills.{fill-after, fill-own}
+use Rattle.residual.proofs.Places.{by-row, by-column, area}
+use Rattle.residual.proofs.Small.{entering-small, at-most}
+
+-- ---- sizes
+
+pub row-range-small : (d : Depth) → row-range d ≤ 524288
+row-range-small Eight = lit≤ tt
+row-range-small Ten = lit≤ tt
+row-range-small Twelve = lit≤ tt
+
+pub column-range-small : (d : Depth) → column-range d ≤ 524288
+column-range-small Eight = lit≤ tt
+column-range-small Ten = lit≤ tt
+column-range-small Twelve = lit≤ tt
+
+-- what holds of zero and of the first n holds of every element
+at-tab : (P : ℤ → Type 0) (n : ℕ) (f : ℕ → ℤ) → P (pos 0) → ((i : ℕ) → i < n → P (f i)) → (i : ℕ) → P (at (tab n f) i)
+at-tab P zero f z h i = z
+at-tab P (suc n) f z h zero = h 0 (omega arith)
+at-tab P (suc n) f z h (suc i) = at-tab P n (λ j. f (suc j)) z (λ j l. h (suc j) (omega arith)) i
+
+-- what holds of zero and of the rows holds of every number of the block
+pub at-holds : (P : ℤ → Type 0) (w k : ℕ) (f : ℕ → ℕ → ℤ) (t : List ℤ) → 0 < w → Holds w k f t → P (pos 0) → ((y x : ℕ) → y < k → x < w → P (f y x)) → (i : ℕ) → P (at t i)
+at-holds P w k f t some h z g i = go (ltb i (k * w)) refl
+  where
+    go : (b : Bool) → ltb i (k * w) ≡ b → P (at t i)
+    go true e =
+        let l : i < k * w = ltb-true _ _ e in
+        let y<k : i / w < k = div-lt-iff-lt-mul some .1 l in
+        let x<w : i % w < w = mod-lt i some in
+        subst P (sym (h .rows (i / w) (i % w) y<k x<w) ∙ ap (at t) (div-add-mod' i w)) (g (i / w) (i % w) y<k x<w)
+    go false e = subst⁻¹ P (h .rest i (ltb-false _ _ e)) z
+
+-- ---- the steps together
+
+module _ (p : Plan) (d : Depth) (c : List ℤ) (r : ℕ) (t₁ t₂ t₃ : List ℤ) (m₁ m₂ : Bool) (sized : Sized p) (coefs : Coefs p c) (some-rows : r ≤ p .h)
+    (rowed : RowsAre p (row-range d) c r t₁ m₁)
+    (rounded : t₂ ≡ fill t₁ 0 (λ i. rounding p (low (column-range d)) (high (column-range d)) (at t₁ i)) (r * p .w))
+  where
+    abbrev between : ℤ → ℤ
+    between = rounding p (low (column-range d)) (high (column-range d))
+
+    inside : r * p .w ≤ length t₁
+    inside = omega (arith, rowed .elements .long, mul-le-mul-right {m = r} {n = p .h} (p .w) some-rows, area p sized)
+
+    loaded-small : (y x : ℕ) → y < r → x < p .w → natAbs (loaded p c y x) ≤ 524288
+    loaded-small y x l g = entering-small (p .rows) (p .w) (p .h) _ (coefs .small (y + x * p .h) (by-column (p .w) (p .h) y x (omega arith) g))
+
+    row-small : (y x : ℕ) → y < r → natAbs (at (row-made p (row-range d) c y .values) x) ≤ 2621442
+    row-small y x l = pass-small (sided (p .w)) (row-range d) (tab (p .w) (loaded p c y)) (p .rows) 524288 (row-range-small d) (at-tab (λ z. natAbs z ≤ 524288) (p .w) (loaded p c y) (lit≤ tt) (λ i g. loaded-small y i l g)) x
+
+    pub rowed-small : (i : ℕ) → natAbs (at t₁ i) ≤ 2621442
+    rowed-small = at-holds (λ z. natAbs z ≤ 2621442) (p .w) r _ t₁ (not-0 (p .w) (sized .width)) (rowed .elements) (lit≤ tt) (λ y x l g. row-small y x l)
+
+    -- what stands in row y, column x after step 4
+    in-rows : (i : ℕ) → i < r * p .w → at t₂ i ≡ between (at t₁ i)
+    in-rows i l = ap (λ (t : List ℤ). at t i) rounded ∙ ap (at (fill t₁ 0 (λ j. between (at t₁ j)) (r * p .w))) (omega arith) ∙ fill-own t₁ 0 (λ j. between (at t₁ j)) (r * p .w) i (omega (arith, inside)) l
+
+    after-rows : (i : ℕ) → r * p .w ≤ i → at t₂ i ≡ pos 0
+    after-rows i l = ap (λ (t : List ℤ). at t i) rounded ∙ fill-after t₁ 0 (λ j. between (at t₁ j)) (r * p .w) i (omega arith) ∙ rowed .elements .rest i l
+
+    middle-is : (y x : ℕ) → x < p .w → at t₂ (y * p .w + x) ≡ middle (way p d) c r y x
+    middle-is y x g = go (ltb y r) refl
+      where
+        go : (b : Bool) → ltb y r ≡ b → at t₂ (y * p .w + x) ≡ cond b (between (at (row-made p (row-range d) c y .values) x)) (pos 0)
+        go true e = let l : y < r = ltb-true _ _ e in in-rows (y * p .w + x) (by-row (p .w) r y x l g) ∙ ap between (rowed .elements .rows y x l g)
+        go false e = let l : r ≤ y = ltb-false _ _ e in after-rows (y * p .w + x) (omega (arith, mul-le-mul-right {m = r} {n = y} (p .w) l))
+
+    -- sizes after step 4: a column takes them
+    ends-small : (z : ℤ) → natAbs (clip z (low (column-range d)) (high (column-range d))) ≤ 524288
+    ends-small z = go d
+      where
+        go : (b : Depth) → natAbs (clip z (low (column-range b)) (high (column-range b))) ≤ 524288
+        go Eight = clip-abs z (low 32768) (high 32768) (lit≤ tt) (lit≤ tt)
+        go Ten = clip-abs z (low 32768) (high 32768) (lit≤ tt) (lit≤ tt)
+        go Twelve = clip-abs z (low 131072) (high 131072) (lit≤ tt) (lit≤ tt)
+
+    between-small : (z : ℤ) → natAbs z ≤ 2621442 → (natAbs (between z) ≤ 2621442) × (natAbs (between z) ≤ most (p .columns))
+    between-small z l = go (p .rows) (p .columns) (sized .wht-both)
+      where
+        go : (k j : Kind) → (k ≡ Wht → j ≡ Wht) → (natAbs (if-wht k z (clip (round2 z (p .shift)) (low (column-range d)) (high (column-range d)))) ≤ 2621442) × (natAbs (if-wht k z (clip (round2 z (p .shift)) (low (column-range d)) (high (column-range d)))) ≤ most j)
+        go Wht j f = (l, subst⁻¹ (λ (i : Kind). natAbs z ≤ most i) (f refl) (le-trans l (lit≤ tt)))
+        go Dct j f = let b = ends-small (round2 z (p .shift)) in (le-trans b (lit≤ tt), le-trans b (at-most j))
+        go Identity j f = let b = ends-small (round2 z (p .shift)) in (le-trans b (lit≤ tt), le-trans b (at-most j))
+
+    block-small : (i : ℕ) → (natAbs (at t₂ i) ≤ 2621442) × (natAbs (at t₂ i) ≤ most (p .columns))
+    block-small i = go (ltb i (r * p .w)) refl
+      where
+        go : (b : Bool) → ltb i (r * p .w) ≡ b → (natAbs (at t₂ i) ≤ 2621442) × (natAbs (at t₂ i) ≤ most (p .columns))
+        go true e = subst⁻¹ (λ (z : ℤ). (natAbs z ≤ 2621442) × (natAbs z ≤ most (p .columns))) (in-rows i (ltb-true _ _ e)) (between-small (at t₁ i) (rowed-small i))
+        go false e = subst⁻¹ (λ (z : ℤ). (natAbs z ≤ 2621442) × (natAbs z ≤ most (p .columns))) (after-rows i (ltb-false _ _ e)) (lit≤ tt, omega arith)
+
+    pub for-columns : (i : ℕ) → natAbs (at t₂ i) ≤ most (p .columns)
+    for-columns i = block-small i .1
+
+    module _ (columned : ColumnsAre (p .columns) (column-range d) (p .w) (p .h) t₂ (p .w) t₃ m₂) where
+      column-is : (x : ℕ) → x < p .w → column-made (p .columns) (column-range d) (p .w) (p .h) t₂ x ≡ column (way p d) c r x
+      column-is x g = ap (pass (p .columns) (sided (p .h)) (column-range d)) (tab-ext (p .h) _ _ (λ y l. middle-is y x g))
+
+      column-small : (y x : ℕ) → y < p .h → x < p .w → natAbs (at t₃ (y * p .w + x)) ≤ 16777216
+      column-small y x l g =
+          subst⁻¹ (λ (z : ℤ). natAbs z ≤ 16777216) (columned .elements .passed y x l g)
+          (le-trans (pass-small (sided (p .h)) (column-range d) (tab (p .h) (λ v. at t₂ (v * p .w + x))) (p .columns) 2621442 (le-trans (column-range-small d) (lit≤ tt))
+          (at-tab (λ z. natAbs z ≤ 2621442) (p .h) (λ v. at t₂ (v * p .w + x)) (lit≤ tt) (λ v k. block-small (v * p .w + x) .0)) y) (lit≤ tt))
+
+      pub resolved : Resolved p d c r t₃ (m₁ || m₂)
+      resolved = record {
+        elements = λ y x l g. columned .elements .passed y x l g ∙ ap (λ (s : Passed). at (s .values) y) (column-is x g);
+        small = column-small;
+        long = columned .elements .long;
+        mark-is = ap₂ (λ a b. a || b) (rowed .marked) (columned .marked ∙ any-ext (p .w) _ _ (λ x g. ap (λ (s : Passed). s .mark) (column-is x g)));
+      }

@@ -1,0 +1,86 @@
+-- The residual of a block: document 01, "Two-dimensional transform", steps 1 to 6, the WHT and the shortcut.
+use mathlib.Core.Bool.{Bool, cond, _||_}
+use mathlib.Core.List.{List}
+use Prim.Native.Nat.{ℕ, _+_, _*_}
+use lib.Dec.{eqb, ltb}
+use lib.IntN.{ℤ, pos, _+ℤ_, _*ℤ_}
+use Rattle.whole.specs.Numbers.{_>>_, round2, clip, low, high}
+use Rattle.whole.specs.Lists.{at, tab, any}
+use Rattle.itx_1d.specs.declared.Kind.{Kind}
+use Rattle.itx_1d.specs.declared.Kind.the-variants.{Dct, Identity, Wht}
+use Rattle.itx_1d.specs.Passes.{Passed, pass}
+use Rattle.bitdepth.specs.declared.Depth.{Depth}
+use Rattle.bitdepth.specs.Depths.{row-range, column-range}
+use Rattle.levels.specs.declared.Plan.{Plan}
+use Rattle.levels.specs.Plans.{side}
+
+-- a way through a block: the passes, and what becomes of each number before, between and after them
+pub record Way : Type 0 where
+  pub w : ℕ
+  pub h : ℕ
+  pub enter : ℤ → ℤ
+  pub row : List ℤ → Passed
+  pub between : ℤ → ℤ
+  pub column : List ℤ → Passed
+  pub leave : ℤ → ℤ
+
+-- the coefficients c taken this way
+module _ (𝓦 : Way) (c : List ℤ) where
+  -- step 1: "Coefficient of row y, column x stands at y + x·h."
+  abbrev pub entered : ℕ → ℕ → ℤ
+  entered y x = 𝓦 .enter (at c (y + x * 𝓦 .h))
+
+  abbrev pub row : ℕ → Passed
+  row y = 𝓦 .row (tab (𝓦 .w) (entered y))
+
+  -- "passes over rows 0..r-1 only and treats the others as zero rows"
+  module _ (r : ℕ) where
+    abbrev pub middle : ℕ → ℕ → ℤ
+    middle y x = cond (ltb y r) (𝓦 .between (at (row y .values) x)) (pos 0)
+
+    abbrev pub column : ℕ → Passed
+    column x = 𝓦 .column (tab (𝓦 .h) (λ y. middle y x))
+
+    -- what is added to the pixel of row y, column x
+    abbrev pub residual : ℕ → ℕ → ℤ
+    residual y x = 𝓦 .leave (at (column x .values) y)
+
+    -- whether some pass has the mark
+    abbrev pub marked : Bool
+    marked = any r (λ y. row y .mark) || any (𝓦 .w) (λ x. column x .mark)
+
+-- step 2: "If one side is twice the other, each coefficient v becomes 181v + 128 >> 8."
+unfoldable pub prescale : ℕ → ℕ → ℤ → ℤ
+prescale w h v = cond (eqb (w * 2) h || eqb (h * 2) w) (round2 (v *ℤ pos 181) 8) v
+
+-- a for WHT_WHT, b for the other types
+abbrev pub if-wht : Kind → ℤ → ℤ → ℤ
+if-wht Wht a b = a
+if-wht Dct a b = b
+if-wht Identity a b = b
+
+-- "WHT_WHT: coefficients are shifted right by 2, rows, columns .. no step 2, 4 or rounding."
+abbrev pub way : Plan → Depth → Way
+way p d =
+    let m = column-range d in
+    record {
+      w = p .w;
+      h = p .h;
+      enter = λ v. if-wht (p .rows) (v >> 2) (prescale (p .w) (p .h) v);
+      -- step 3: "Row pass on every row, with the row range."
+      row = pass (p .rows) (side (p .w)) (row-range d);
+      -- step 4: "v + rnd >> shift, clipped to the column range"; rnd is that of Round2
+      between = λ v. if-wht (p .rows) v (clip (round2 v (p .shift)) (low m) (high m));
+      -- step 5: "Column pass with the column range."
+      column = pass (p .columns) (side (p .h)) m;
+      -- step 6: "v + 8 >> 4"
+      leave = λ v. if-wht (p .columns) v (round2 v 4);
+    }
+
+-- "d is the first coefficient; step 2 if due; d = 181d + 128 >> 8; d = d + rnd >> shift; d = 181d + 2176 >> 12"
+unfoldable pub shortcut : Plan → ℤ → ℤ
+shortcut p v =
+    let d₀ = prescale (p .w) (p .h) v in
+    let d₁ = round2 (d₀ *ℤ pos 181) 8 in
+    let d₂ = round2 d₁ (p .shift) in
+    d₂ *ℤ pos 181 +ℤ pos 2176 >> 12

@@ -1,0 +1,114 @@
+-- What the inner functions ask and give: the public calls' definitions are in Calls.
+use mathlib.Core.Path.{_≡_}
+use mathlib.Core.Bool.{Bool}
+use mathlib.Core.List.{List}
+use Prim.Native.Nat.{ℕ, zero, suc, _+_, _*_, _≤_, _<_}
+use lib.IntN.{ℤ, pos, natAbs}
+use lib.ListN.{length, set}
+use Rattle.whole.specs.Numbers.{_>>_, round2, clip}
+use Rattle.whole.specs.Lists.{at, tab, any}
+use Rattle.av1.specs.Sides.{len}
+use Rattle.itx_1d.specs.declared.Kind.{Kind}
+use Rattle.itx_1d.specs.declared.Kind.the-variants.{Wht}
+use Rattle.itx_1d.specs.Passes.{Passed, pass}
+use Rattle.itx_1d.specs.Inner.{sided, most, Lined, Limited}
+use Rattle.bitdepth.specs.declared.Depth.{Depth}
+use Rattle.levels.specs.declared.Plan.{Plan}
+use Rattle.residual.specs.Blocks.{column, marked, if-wht, prescale, way}
+
+abbrev pub entering : Kind → ℕ → ℕ → ℤ → ℤ
+entering rows w h v = if-wht rows (v >> 2) (prescale w h v)
+
+-- f 0, .., f (k - 1) stored from place `from` on
+unfoldable pub fill : List ℤ → ℕ → (ℕ → ℤ) → ℕ → List ℤ
+fill t from f zero = t
+fill t from f (suc k) = set (fill t from f k) (from + k) (f k)
+
+-- the scratch block as w-wide rows: its first k rows hold f, and it is zero after them
+pub record Holds (w k : ℕ) (f : ℕ → ℕ → ℤ) (t : List ℤ) : Type 0 where
+  pub rows : (y x : ℕ) → y < k → x < w → at t (y * w + x) ≡ f y x
+  pub rest : (i : ℕ) → k * w ≤ i → at t i ≡ pos 0
+  pub long : length t ≡ 1024
+
+-- a plan of one of the fourteen sizes
+pub record Sized (p : Plan) : Type 0 where
+  pub width : len (sided (p .w)) ≡ p .w
+  pub height : len (sided (p .h)) ≡ p .h
+  pub shift-small : p .shift ≤ 2
+  pub row-length : Lined (p .rows) (p .w)
+  pub column-length : Lined (p .columns) (p .h)
+  pub wht-both : p .rows ≡ Wht → p .columns ≡ Wht
+
+-- the first w·h coefficients are there and small
+pub record Coefs (p : Plan) (c : List ℤ) : Type 0 where
+  pub count : p .w * p .h ≤ length c
+  pub small : (i : ℕ) → i < p .w * p .h → natAbs (at c i) ≤ 524288
+
+-- what the loops ask
+pub record RowLoads (p : Plan) (c : List ℤ) (y : ℕ) (t : List ℤ) : Type 0 where
+  pub sized : Sized p
+  pub coefs : Coefs p c
+  pub y-in : y < p .h
+  pub long : length t ≡ 1024
+
+abbrev pub rounding : Plan → ℤ → ℤ → ℤ → ℤ
+rounding p lo hi v = if-wht (p .rows) v (clip (round2 v (p .shift)) lo hi)
+
+pub record Rounds (p : Plan) (n : ℕ) (t : List ℤ) : Type 0 where
+  pub shift-small : p .shift ≤ 2
+  pub inside : n ≤ length t
+  pub small : (i : ℕ) → natAbs (at t i) ≤ 16777216
+
+-- steps 1 to 3: what they ask, what a pass with the range -m .. m - 1 makes of row y, and what they leave after k rows
+pub record RowsLoad (p : Plan) (c : List ℤ) (r : ℕ) (lo hi : ℤ) (t : List ℤ) : Type 0 where
+  pub sized : Sized p
+  pub coefs : Coefs p c
+  pub some-rows : r ≤ p .h
+  pub limited : Limited (p .rows) lo hi
+  pub empty : (i : ℕ) → at t i ≡ pos 0
+  pub long : length t ≡ 1024
+
+abbrev pub loaded : Plan → List ℤ → ℕ → ℕ → ℤ
+loaded p c y x = entering (p .rows) (p .w) (p .h) (at c (y + x * p .h))
+
+abbrev pub row-made : Plan → ℕ → List ℤ → ℕ → Passed
+row-made p m c y = pass (p .rows) (sided (p .w)) m (tab (p .w) (loaded p c y))
+
+pub record RowsAre (p : Plan) (m : ℕ) (c : List ℤ) (k : ℕ) (t : List ℤ) (mark : Bool) : Type 0 where
+  pub elements : Holds (p .w) k (λ y x. at (row-made p m c y .values) x) t
+  pub marked : mark ≡ any k (λ y. row-made p m c y .mark)
+
+-- step 5: what a pass makes of column x of the block, what the passes ask, and what they leave after k columns
+abbrev pub column-made : Kind → ℕ → ℕ → ℕ → List ℤ → ℕ → Passed
+column-made kind m w h t x = pass kind (sided h) m (tab h (λ y. at t (y * w + x)))
+
+pub record Columned (kind : Kind) (m w h : ℕ) (t : List ℤ) (k : ℕ) (u : List ℤ) : Type 0 where
+  pub passed : (y x : ℕ) → y < h → x < k → at u (y * w + x) ≡ at (column-made kind m w h t x .values) y
+  pub waiting : (y x : ℕ) → y < h → k ≤ x → x < w → at u (y * w + x) ≡ at t (y * w + x)
+  pub long : length u ≡ 1024
+
+pub record ColumnsPass (kind : Kind) (w h : ℕ) (lo hi : ℤ) (t : List ℤ) : Type 0 where
+  pub is-length : len (sided h) ≡ h
+  pub room : h * w ≤ 1024
+  pub lined : Lined kind h
+  pub limited : Limited kind lo hi
+  pub small : (i : ℕ) → natAbs (at t i) ≤ most kind
+  pub long : length t ≡ 1024
+
+pub record ColumnsAre (kind : Kind) (m w h : ℕ) (t : List ℤ) (k : ℕ) (u : List ℤ) (mark : Bool) : Type 0 where
+  pub elements : Columned kind m w h t k u
+  pub marked : mark ≡ any k (λ x. column-made kind m w h t x .mark)
+
+-- the whole: what it asks, and gives
+pub record Resolves (p : Plan) (c : List ℤ) (r : ℕ) (t : List ℤ) : Type 0 where
+  pub sized : Sized p
+  pub coefs : Coefs p c
+  pub some-rows : r ≤ p .h
+  pub empty : (i : ℕ) → at t i ≡ pos 0
+  pub long : length t ≡ 1024
+
+pub record Resolved (p : Plan) (d : Depth) (c : List ℤ) (r : ℕ) (t : List ℤ) (mark : Bool) : Type 0 where
+  pub elements : (y x : ℕ) → y < p .h → x < p .w → at t (y * p .w + x) ≡ at (column (way p d) c r x .values) y
+  pub small : (y x : ℕ) → y < p .h → x < p .w → natAbs (at t (y * p .w + x)) ≤ 16777216
+  pub long : length t ≡ 1024
+  pub mark-is : mark ≡ marked (way p d) c r

@@ -1,0 +1,2 @@
+-- Where the pixels of a block stand.
+pub mod Planes

@@ -1,0 +1,133 @@
+// Strides and rows of the pixel plane, after src/strided.rs.
+ghost use mathlib.Core.Path.{_≡_};
+ghost use lib.IntN.{natAbs};
+ghost use lib.ListN.{length};
+ghost use Rattle.whole.specs.Checks.{accept, unless};
+ghost use Rattle.strided.specs.Planes.{stride-check, turned, starts, rows-check, rows-outside, row-part, IsPart};
+use levels::SizeCheck;
+use levels::size_shift;
+
+// A stride counted in bytes, and one counted in pixels.
+pub struct ByteStride(pub i32);
+
+pub struct PixelStride(pub i32);
+
+// The stride in pixels, or number 7 of the refusals.
+pub enum StrideCheck {
+    Pixels(PixelStride),
+    Refused,
+}
+
+// Number 8 of the refusals is Outside.
+pub enum RowsCheck {
+    Inside,
+    Outside,
+}
+
+pub struct Part {
+    pub from: usize,
+    pub size: usize,
+}
+
+fn distance(v: i32) -> usize
+    ensures { λ r. ⌜ r ≡ natAbs v ⌝ }
+{
+    if v < 0 {
+        (0 - v as i64) as usize
+    } else {
+        v as usize
+    }
+}
+
+impl ByteStride {
+    pub fn in_pixels(self, w: usize) -> StrideCheck
+        ensures { λ r. ⌜ stride-check r ≡ turned w (self .0) ⌝ }
+    {
+        let bytes = self.0;
+        if bytes % 2 != 0 {
+            return StrideCheck::Refused;
+        }
+        let pixels = bytes >> 1;
+        if distance(pixels) < w {
+            return StrideCheck::Refused;
+        }
+        StrideCheck::Pixels(PixelStride(pixels))
+    }
+}
+
+impl PixelStride {
+    // Where row y starts, also before the slice.
+    pub fn start(self, offset: u32, y: u16) -> i64
+        ensures { λ r. ⌜ r ≡ starts offset (self .0) y ⌝ }
+    {
+        offset as i64 + y as i64 * self.0 as i64
+    }
+
+    // Rows move one way, so the room on that side of the first bounds their number: no product, so none that wraps.
+    pub fn rows(self, size: usize, offset: u32, w: usize, h: usize) -> RowsCheck
+        ensures { λ r. ⌜ rows-check r ≡ unless (rows-outside size offset (self .0) w h) 8 (accept tt) ⌝ }
+    {
+        let stride = self.0;
+        let first = offset as usize;
+        if h == 0 {
+            return RowsCheck::Inside;
+        }
+        if size < w {
+            return RowsCheck::Outside;
+        }
+        if size - w < first {
+            return RowsCheck::Outside;
+        }
+        let step = distance(stride);
+        if step == 0 {
+            return RowsCheck::Inside;
+        }
+        let room = if stride < 0 { first } else { size - w - first };
+        if room / step < h - 1 {
+            RowsCheck::Outside
+        } else {
+            RowsCheck::Inside
+        }
+    }
+}
+
+// Where row y of a block stands in a slice of this size, or an empty part.
+fn lookup(size: usize, offset: u32, stride: ByteStride, w: usize, h: usize, y: usize) -> Part
+    ensures { λ r. ⌜ r ≡ row-part size offset (stride .0) w h y ⌝ }
+{
+    let none = Part { from: 0, size: 0 };
+    let SizeCheck::Shift(_) = size_shift(w, h) else {
+        return none;
+    };
+    let StrideCheck::Pixels(pixels) = stride.in_pixels(w) else {
+        return none;
+    };
+    let RowsCheck::Inside = pixels.rows(size, offset, w, h) else {
+        return none;
+    };
+    if h <= y {
+        return none;
+    }
+    let from = pixels.start(offset, y as u16);
+    Part {
+        from: from as usize,
+        size: w,
+    }
+}
+
+// Row y of a block, as that part of the plane, or an empty part.
+pub fn row<'a>(
+    dst: &'a mut [u16],
+    offset: u32,
+    stride: ByteStride,
+    w: usize,
+    h: usize,
+    y: usize,
+) -> &'a mut [u16]
+    ensures { λ r. ⌜ IsPart (dst .entry) r (row-part (length (now (dst .entry))) offset (stride .0) w h y) ⌝ }
+{
+    let part = lookup(dst.len(), offset, stride, w, h, y);
+    let from = part.from;
+    let end = from + part.size;
+    &mut dst[from..end]
+}

@@ -1,0 +1,186 @@
+//! The public calls as values, each with the outcome that is wanted of it: the refusal that document 01's table gives,
+//! else what the Rust does.
+
+use crate::cases;
+use crate::itx::{self, Kind, Plan};
+use crate::shim::{recorder, BitDepth, BitDepth16, BitDepth8, BitDepth8Wide, FromPrimitive, ToPrimitive};
+
+#[derive(Clone, Copy, PartialEq, Eq, Debug)]
+pub struct Answer {
+    pub number: u64,
+    pub place: u64,
+    pub mark: bool,
+}
+
+impl Answer {
+    pub fn refused(number: u64, place: usize) -> Answer {
+        let place = place as u64;
+        Answer { number, place, mark: false }
+    }
+
+    pub fn accepted(mark: bool) -> Answer {
+        Answer { number: 0, place: 0, mark }
+    }
+
+    /// As the exported functions pack it: the number in bits 0 to 7, the mark in bit 8, the place from bit 16 up.
+    pub fn unpacked(word: u64) -> Answer {
+        Answer { number: word & 0xff, place: word >> 16, mark: word & 0x100 != 0 }
+    }
+}
+
+/// A one-dimensional call. A WHT has no range, and its min and max are not looked at.
+#[derive(Clone, Debug)]
+pub struct PassCall {
+    pub kind: Kind,
+    pub n: usize,
+    pub c: Vec<i32>,
+    pub stride: usize,
+    pub min: i32,
+    pub max: i32,
+}
+
+impl PassCall {
+    /// Numbers 11 to 14, in their order.
+    fn refusal(&self) -> Option<Answer> {
+        let in_range = |&&m: &&i32| self.min == -m && self.max == m - 1;
+        let m = match self.kind {
+            Kind::Wht => Some(&cases::WHT_LIMIT),
+            _ => cases::LIMITS.iter().find(in_range),
+        };
+        let Some(&m) = m else {
+            return Some(Answer::refused(11, 0));
+        };
+        if self.stride == 0 {
+            return Some(Answer::refused(12, 0));
+        }
+        let last = (self.n as u128 - 1) * self.stride as u128;
+        if self.c.len() as u128 <= last {
+            return Some(Answer::refused(13, 0));
+        }
+        let outside = |&k: &usize| !(-m..m).contains(&self.c[k * self.stride]);
+        (0..self.n).find(outside).map(|k| Answer::refused(14, k))
+    }
+
+    pub fn wanted(&self) -> (Answer, Vec<i32>) {
+        let mut c = self.c.clone();
+        if let Some(refusal) = self.refusal() {
+            return (refusal, c);
+        }
+        let run = || itx::pass(self.kind, self.n, &mut c, self.stride, self.min, self.max);
+        let mark = recorder::mark_of(run);
+        (Answer::accepted(mark), c)
+    }
+}
+
+/// What tells the plain call from the live-row call.
+#[derive(Clone, Copy, PartialEq, Eq, Debug)]
+pub enum Rows {
+    Eob(i32),
+    Live(usize),
+}
+
+/// A two-dimensional call. The stride counts bytes, the offset pixels.
+#[derive(Clone, Debug)]
+pub struct BlockCall {
+    pub plane: Vec<u16>,
+    pub offset: u32,
+    pub stride: i32,
+    pub coeff: Vec<i32>,
+    pub rows: Rows,
+    pub w: usize,
+    pub h: usize,
+    pub txtp: usize,
+    pub depth: usize,
+}
+
+impl BlockCall {
+    /// Numbers 1 to 10, in their order.
+    fn refusal(&self) -> Option<Answer> {
+        let number = |number: u64, holds: bool| holds.then(|| Answer::refused(number, 0));
+        let (w, h) = (self.w, self.h);
+        number(1, !cases::SIZES.contains(&(w, h)))
+            .or_else(|| number(2, !cases::has_type(w, h, self.txtp)))
+            .or_else(|| number(3, !cases::DEPTHS.contains(&self.depth)))
+            .or_else(|| number(4, matches!(self.rows, Rows::Eob(eob) if eob < 0)))
+            .or_else(|| number(5, matches!(self.rows, Rows::Live(r) if !(1..=h).contains(&r))))
+            .or_else(|| number(6, self.coeff.len() < w * h))
+            .or_else(|| number(7, self.stride % 2 != 0 || self.pixel_stride().unsigned_abs() < w as u64))
+            .or_else(|| number(8, (0..h).any(|y| self.row(y).is_none())))
+            .or_else(|| self.offender(9, |v, _| !cases::row_range(self.depth).contains(&v)))
+            .or_else(|| match self.rows {
+                Rows::Live(r) => self.offender(10, |v, y| y >= r && v != 0),
+                Rows::Eob(_) => None,
+            })
+    }
+
+    /// Refusal by the first coefficient, in buffer order, that `offends` with its value and row.
+    fn offender(&self, number: u64, offends: impl Fn(i32, usize) -> bool) -> Option<Answer> {
+        let place = (0..self.w * self.h).find(|&p| offends(self.coeff[p], p % self.h))?;
+        Some(Answer::refused(number, place))
+    }
+
+    fn pixel_stride(&self) -> i64 {
+        i64::from(self.stride) / 2
+    }
+
+    /// Where row y starts, if it lies wholly inside the plane.
+    fn row(&self, y: usize) -> Option<usize> {
+        let start = i64::from(self.offset) + y as i64 * self.pixel_stride();
+        let start = usize::try_from(start).ok()?;
+        (start + self.w <= self.plane.len()).then_some(start)
+    }
+
+    /// The call with nothing beyond its block, if it is smaller so.
+    pub fn alone(&self) -> Option<BlockCall> {
+        if self.refusal().is_some() || self.plane.len() == self.w * self.h && self.stride > 0 {
+            return None;
+        }
+        let rows = (0..self.h).filter_map(|y| self.row(y));
+        let plane = rows.flat_map(|at| &self.plane[at..][..self.w]).copied().collect();
+        let coeff = self.coeff[..self.w * self.h].to_vec();
+        Some(BlockCall { plane, offset: 0, stride: 2 * self.w as i32, coeff, ..self.clone() })
+    }
+
+    /// The answer, the plane and the coefficients.
+    pub fn wanted(&self) -> (Answer, Vec<u16>, Vec<i32>) {
+        if let Some(refusal) = self.refusal() {
+            return (refusal, self.plane.clone(), self.coeff.clone());
+        }
+        if self.depth != 8 {
+            let bitdepth_max = cases::maximum(self.depth);
+            return self.run(BitDepth16 { bitdepth_max });
+        }
+        let mut starts = (0..self.h).filter_map(|y| self.row(y));
+        let fits = starts.all(|at| self.plane[at..][..self.w].iter().all(|&p| p <= 255));
+        if fits {
+            self.run(BitDepth8)
+        } else {
+            self.run(BitDepth8Wide)
+        }
+    }
+
+    /// What the Rust does with the numbers at its own widths. Only the block is taken back from it: what lies beyond
+    /// may not fit those widths, and by document 01 stays.
+    fn run<BD: BitDepth>(&self, bd: BD) -> (Answer, Vec<u16>, Vec<i32>) {
+        let wh = self.w * self.h;
+        // A live-row call is held to the Rust's at eob 1, which is never its shortcut.
+        let eob = if let Rows::Eob(eob) = self.rows { eob } else { 1 };
+        let plan = Plan { w: self.w, h: self.h, txtp: self.txtp, eob };
+        let mut pixels: Vec<BD::Pixel> = self.plane.iter().map(|&p| BD::Pixel::from_prim(p.into())).collect();
+        let mut block: Vec<BD::Coef> = self.coeff[..wh].iter().map(|&v| BD::Coef::from_prim(v)).collect();
+        let (offset, stride) = (self.offset as usize, self.pixel_stride() as isize);
+        let mark = recorder::mark_of(|| itx::add_by_plan(&mut pixels, offset, stride, &mut block, plan, bd));
+
+        let (mut plane, mut coeff) = (self.plane.clone(), self.coeff.clone());
+        for at in (0..self.h).filter_map(|y| self.row(y)) {
+            for x in at..at + self.w {
+                let p: i32 = pixels[x].to_prim();
+                plane[x] = p as u16;
+            }
+        }
+        for (v, done) in coeff.iter_mut().zip(block) {
+            *v = done.to_prim();
+        }
+        (Answer::accepted(mark), plane, coeff)
+    }
+}

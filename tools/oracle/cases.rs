@@ -1,0 +1,270 @@
+//! Sizes, types and ranges of document 01, and random inputs over all of them.
+
+use crate::calls::{BlockCall, PassCall, Rows};
+use crate::format::Record;
+use crate::itx::Kind;
+use std::ops::Range;
+
+pub const SIZES: [(usize, usize); 14] = [
+    (4, 4),
+    (4, 8),
+    (4, 16),
+    (8, 4),
+    (8, 8),
+    (8, 16),
+    (8, 32),
+    (16, 4),
+    (16, 8),
+    (16, 16),
+    (16, 32),
+    (32, 8),
+    (32, 16),
+    (32, 32),
+];
+pub const TYPES: [usize; 5] = [0, 9, 10, 11, 16];
+pub const DEPTHS: [usize; 3] = [8, 10, 12];
+/// The range of a pass is -m..m-1 with one of these as m.
+pub const LIMITS: [i32; 3] = [32768, 131072, 524288];
+pub const WHT_LIMIT: i32 = 16777216;
+
+pub fn has_type(w: usize, h: usize, txtp: usize) -> bool {
+    match txtp {
+        0 | 9 => true,
+        10 | 11 => w * h <= 128 || (w, h) == (16, 16),
+        16 => (w, h) == (4, 4),
+        _ => false,
+    }
+}
+
+fn row_limit(depth: usize) -> i32 {
+    1 << (depth + 7)
+}
+
+pub fn row_range(depth: usize) -> Range<i32> {
+    -row_limit(depth)..row_limit(depth)
+}
+
+pub fn maximum(depth: usize) -> u16 {
+    (1 << depth) - 1
+}
+
+/// Each kind and length of pass with each of its ranges.
+pub fn pass_shapes() -> Vec<(Kind, usize, i32)> {
+    let mut shapes = vec![(Kind::Wht, 4, WHT_LIMIT)];
+    for kind in [Kind::Dct, Kind::Identity] {
+        for n in [4, 8, 16, 32] {
+            shapes.extend(LIMITS.map(|m| (kind, n, m)));
+        }
+    }
+    shapes
+}
+
+#[derive(Clone, Copy)]
+pub struct Shape {
+    pub w: usize,
+    pub h: usize,
+    pub txtp: usize,
+    pub depth: usize,
+}
+
+/// Each size with each of its types and each depth.
+pub fn block_shapes() -> Vec<Shape> {
+    let mut shapes = Vec::new();
+    for (w, h) in SIZES {
+        for txtp in TYPES.into_iter().filter(|&txtp| has_type(w, h, txtp)) {
+            shapes.extend(DEPTHS.map(|depth| Shape { w, h, txtp, depth }));
+        }
+    }
+    shapes
+}
+
+/// SplitMix64: the same numbers from one seed on every machine.
+pub struct Rng(pub u64);
+
+impl Rng {
+    pub fn word(&mut self) -> u64 {
+        self.0 = self.0.wrapping_add(0x9e3779b97f4a7c15);
+        let z = (self.0 ^ self.0 >> 30).wrapping_mul(0xbf58476d1ce4e5b9);
+        let z = (z ^ z >> 27).wrapping_mul(0x94d049bb133111eb);
+        z ^ z >> 31
+    }
+
+    /// 0 to n - 1.
+    pub fn below(&mut self, n: usize) -> usize {
+        (self.word() % n as u64) as usize
+    }
+
+    /// -m to m - 1.
+    fn around(&mut self, m: i32) -> i32 {
+        (self.word() % (2 * m as u64)) as i32 - m
+    }
+
+    pub fn pick<T: Copy>(&mut self, from: &[T]) -> T {
+        from[self.below(from.len())]
+    }
+
+    pub fn any_i32(&mut self) -> i32 {
+        self.word() as i32
+    }
+}
+
+/// n numbers in -m..m-1, of one of the sorts that tell passes apart.
+fn values(rng: &mut Rng, n: usize, m: i32) -> Vec<i32> {
+    let ends = [-m, m - 1];
+    let mut v = vec![0; n];
+    match rng.below(9) {
+        0 => {}
+        1 => v[rng.below(n)] = rng.pick(&ends),
+        2 => v[0] = rng.around(m),
+        3 => v.fill_with(|| rng.around(m)),
+        4 => {
+            let small = 2 << rng.below(m.ilog2() as usize);
+            v.fill_with(|| rng.around(small));
+        }
+        5 => (0..=rng.below(4)).for_each(|_| v[rng.below(n)] = rng.around(m)),
+        6 => v.fill_with(|| match rng.pick(&ends) {
+            end if end < 0 => end + rng.below(3) as i32,
+            end => end - rng.below(3) as i32,
+        }),
+        7 => v.fill_with(|| rng.pick(&ends)),
+        _ => near_the_clips(rng, &mut v, m),
+    }
+    v
+}
+
+/// A few numbers whose sizes add up to about m, so that some sums of them just reach an end and some just do not.
+fn near_the_clips(rng: &mut Rng, v: &mut [i32], m: i32) {
+    let mut left = m / 100 * (90 + rng.below(100) as i32);
+    for _ in 0..=rng.below(4) {
+        let size = (1 + rng.below(left as usize + 1) as i32).min(m - 1);
+        v[rng.below(v.len())] = rng.pick(&[size, -size]);
+        left = (left - size).max(0);
+    }
+}
+
+/// An accepted pass. What stands between its elements and after them may be any number.
+pub fn pass_call(rng: &mut Rng, (kind, n, m): (Kind, usize, i32), stride: usize) -> PassCall {
+    let len = (n - 1) * stride + 1 + rng.below(4);
+    let mut c: Vec<i32> = (0..len).map(|_| rng.any_i32()).collect();
+    for (k, v) in values(rng, n, m).into_iter().enumerate() {
+        c[k * stride] = v;
+    }
+    PassCall { kind, n, c, stride, min: -m, max: m - 1 }
+}
+
+/// The same call with something in it that is refused, or just not.
+pub fn damage_pass(rng: &mut Rng, call: &mut PassCall) {
+    let (min, max, stride) = (call.min, call.max, call.stride);
+    match rng.below(6) {
+        0 => call.min = rng.pick(&[min.wrapping_add(1), min.wrapping_sub(1), 0, i32::MIN, max]),
+        1 => call.max = rng.pick(&[max.wrapping_add(1), max.wrapping_sub(1), 0, i32::MAX, 131071]),
+        2 => call.stride = rng.pick(&[0, stride.saturating_add(1), usize::MAX, 1 << 62, 1 << 63]),
+        3 => call.c.truncate(rng.below(call.c.len() + 1)),
+        4 => call.c.truncate(stride.saturating_mul(call.n - 1)),
+        _ => {
+            let m = if call.kind == Kind::Wht { WHT_LIMIT } else { rng.pick(&LIMITS) };
+            let value = rng.pick(&[m, -m - 1, i32::MAX, i32::MIN, m - 1, -m]);
+            let at = stride.saturating_mul(rng.below(call.n));
+            call.c.get_mut(at).into_iter().for_each(|v| *v = value);
+        }
+    }
+}
+
+/// w·h coefficients in buffer order: in all rows, in the first few, or the first coefficient alone.
+fn coefficients(rng: &mut Rng, shape: Shape) -> Vec<i32> {
+    let (w, h, m) = (shape.w, shape.h, row_limit(shape.depth));
+    let rows = if rng.below(2) == 0 { h } else { 1 + rng.below(h) };
+    let columns = if rng.below(3) != 0 { w } else { 1 + rng.below(w) };
+    let mut coeff = vec![0; w * h];
+    for (i, v) in values(rng, rows * columns, m).into_iter().enumerate() {
+        coeff[i % rows + i / rows * h] = v;
+    }
+    if rng.below(8) == 0 {
+        coeff[1..].fill(0);
+    }
+    coeff
+}
+
+/// Pixels up to the maximum; now and then, above depth 8, any.
+fn pixels(rng: &mut Rng, n: usize, depth: usize) -> Vec<u16> {
+    let maximum = maximum(depth);
+    let mut v = vec![rng.below(maximum as usize + 1) as u16; n];
+    match rng.below(5) {
+        0 => {}
+        1 => v.fill_with(|| rng.pick(&[0, 1, maximum - 1, maximum])),
+        2 if depth > 8 => v.fill_with(|| rng.word() as u16),
+        _ => v.fill_with(|| rng.below(maximum as usize + 1) as u16),
+    }
+    v
+}
+
+fn eob(rng: &mut Rng, n: usize) -> i32 {
+    let some = rng.below(n) as i32;
+    rng.pick(&[0, 0, 1, 1, some, some, i32::MAX])
+}
+
+pub fn record(rng: &mut Rng, shape: Shape) -> Record {
+    let Shape { w, h, txtp, depth } = shape;
+    let eob = eob(rng, w * h);
+    Record { w, h, txtp, depth, eob, coeff: coefficients(rng, shape), pixels: pixels(rng, w * h, depth) }
+}
+
+/// A record's block in a plane: a stride of either sign, with gaps, and any pixels and coefficients beyond the block.
+pub fn block_call(rng: &mut Rng, record: &Record) -> BlockCall {
+    let (w, h) = (record.w, record.h);
+    let gap = rng.below(40);
+    let width = w + rng.pick(&[0, 0, 1, 2, gap]);
+    let (before, after) = (rng.below(20), rng.below(20));
+    let span = (h - 1) * width;
+    let down = rng.below(2) == 0;
+    let offset = if down { before } else { before + span };
+    let mut plane: Vec<u16> = (0..before + span + w + after).map(|_| rng.word() as u16).collect();
+    for y in 0..h {
+        let at = if down { offset + y * width } else { offset - y * width };
+        plane[at..at + w].copy_from_slice(&record.pixels[y * w..][..w]);
+    }
+    let mut coeff = record.coeff.clone();
+    coeff.extend((0..rng.below(9)).map(|_| rng.any_i32()));
+    BlockCall {
+        plane,
+        offset: offset as u32,
+        stride: if down { 2 * width as i32 } else { -2 * width as i32 },
+        coeff,
+        rows: Rows::Eob(record.eob),
+        w,
+        h,
+        txtp: record.txtp,
+        depth: record.depth,
+    }
+}
+
+/// The same call with something in it that is refused, or just not.
+pub fn damage_block(rng: &mut Rng, call: &mut BlockCall) {
+    let small = rng.below(70);
+    let at = rng.below(call.coeff.len().max(1));
+    match rng.below(11) {
+        0 => call.w = rng.pick(&[0, 4, 8, 16, 32, 64, small, usize::MAX, 1 << 62]),
+        1 => call.h = rng.pick(&[0, 4, 8, 16, 32, 64, small, usize::MAX, 1 << 62]),
+        2 => call.txtp = rng.pick(&[small % 20, 256, usize::MAX]),
+        3 => call.depth = rng.pick(&[small % 20, 264, usize::MAX]),
+        4 => {
+            call.rows = match call.rows {
+                Rows::Eob(_) => Rows::Eob(rng.pick(&[-1, i32::MIN])),
+                Rows::Live(_) => Rows::Live(rng.pick(&[0, call.h, call.h.wrapping_add(1), 1, usize::MAX])),
+            }
+        }
+        5 => call.coeff.truncate(call.w.saturating_mul(call.h).saturating_sub(small % 2)),
+        6 => {
+            let (odd, even) = (call.stride.saturating_add(1), 2 * small as i32);
+            call.stride = rng.pick(&[0, odd, even, -even, i32::MIN, i32::MAX]);
+        }
+        7 => call.plane.truncate(rng.below(call.plane.len() + 1)),
+        8 => call.offset = rng.pick(&[0, call.offset.saturating_add(small as u32), small as u32, u32::MAX]),
+        9 => {
+            let m = rng.pick(&LIMITS);
+            let value = rng.pick(&[m, -m - 1, i32::MAX, i32::MIN, m - 1, -m]);
+            call.coeff.get_mut(at).into_iter().for_each(|v| *v = value);
+        }
+        _ => call.coeff.get_mut(at).into_iter().for_each(|v| *v = 1),
+    }
+}

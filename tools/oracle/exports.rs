@@ -1,0 +1,58 @@
+//! The functions that the archives of `rt staticlib` export. A slice passes as a pointer, then a length.
+
+macro_rules! passes {
+    ($($name:ident),*) => {
+        extern "C" {
+            $(pub fn $name(c: *mut i32, len: usize, stride: usize, min: i32, max: i32) -> u64;)*
+        }
+    };
+}
+
+// libitx_1d.a.
+
+passes!(
+    sgrifomel_inv_dct4_1d,
+    sgrifomel_inv_dct8_1d,
+    sgrifomel_inv_dct16_1d,
+    sgrifomel_inv_dct32_1d,
+    sgrifomel_inv_identity4_1d,
+    sgrifomel_inv_identity8_1d,
+    sgrifomel_inv_identity16_1d,
+    sgrifomel_inv_identity32_1d
+);
+
+extern "C" {
+    pub fn sgrifomel_inv_wht4_1d(c: *mut i32, len: usize, stride: usize) -> u64;
+}
+
+// libitx.a.
+
+extern "C" {
+    pub fn sgrifomel_inv_txfm_add(
+        dst: *mut u16,
+        dst_len: usize,
+        offset: u32,
+        stride_bytes: i32,
+        coeff: *mut i32,
+        coeff_len: usize,
+        eob: i32,
+        w: usize,
+        h: usize,
+        txtp: usize,
+        depth: usize,
+    ) -> u64;
+
+    pub fn sgrifomel_inv_txfm_add_live(
+        dst: *mut u16,
+        dst_len: usize,
+        offset: u32,
+        stride_bytes: i32,
+        coeff: *mut i32,
+        coeff_len: usize,
+        r: usize,
+        w: usize,
+        h: usize,
+        txtp: usize,
+        depth: usize,
+    ) -> u64;
+}

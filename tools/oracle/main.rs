@@ -1,0 +1,145 @@
+//! The oracle as a program over standard input and output; README.md says what each word of it does.
+
+use kernels::calls::PassCall;
+use kernels::cases::{self, Rng, Shape};
+use kernels::format::{write_number, Reader};
+use kernels::itx::Kind;
+use std::env;
+use std::io::{self, Read, Write};
+use std::process::exit;
+
+const KINDS: [Kind; 3] = [Kind::Dct, Kind::Identity, Kind::Wht];
+
+fn main() {
+    let words: Vec<String> = env::args().skip(1).collect();
+    let words: Vec<&str> = words.iter().map(String::as_str).collect();
+    let out = match words[..] {
+        ["passes", seed, count] => passes(number(seed), number(count)),
+        ["passes-done"] => passes_done(&input()),
+        ["blocks", seed, count, ref only @ ..] => blocks(number(seed), number(count), only),
+        ["blocks-done"] => blocks_done(&input()),
+        _ => stop("usage: oracle passes SEED COUNT | passes-done | blocks SEED COUNT [NAME=NUMBER..] | blocks-done"),
+    };
+    if let Err(error) = io::stdout().write_all(&out) {
+        stop(&format!("write failed: {error}"));
+    }
+}
+
+fn stop(why: &str) -> ! {
+    eprintln!("{why}");
+    exit(2)
+}
+
+fn number(word: &str) -> u64 {
+    word.parse().unwrap_or_else(|_| stop(&format!("not a number: {word}")))
+}
+
+fn input() -> Vec<u8> {
+    let mut bytes = Vec::new();
+    if let Err(error) = io::stdin().read_to_end(&mut bytes) {
+        stop(&format!("read failed: {error}"));
+    }
+    bytes
+}
+
+fn put(out: &mut Vec<u8>, word: i32) {
+    out.extend(word.to_le_bytes());
+}
+
+fn passes(seed: u64, count: u64) -> Vec<u8> {
+    let mut rng = Rng(seed);
+    let mut out = Vec::new();
+    for shape in cases::pass_shapes().into_iter().cycle().take(count as usize) {
+        let stride = 1 + rng.below(5);
+        let call = cases::pass_call(&mut rng, shape, stride);
+        let (n, m) = (call.n as i32, shape.2);
+        for word in [call.kind as i32, n, stride as i32, m, call.c.len() as i32] {
+            put(&mut out, word);
+        }
+        call.c.iter().for_each(|&v| put(&mut out, v));
+    }
+    out
+}
+
+fn passes_done(bytes: &[u8]) -> Vec<u8> {
+    let mut words = bytes.chunks(4).map(|word| match word.try_into() {
+        Ok(word) => i32::from_le_bytes(word),
+        Err(_) => stop("the input ends inside a word"),
+    });
+    let mut out = Vec::new();
+    while let Some(kind) = words.next() {
+        let mut next = || words.next().unwrap_or_else(|| stop("the input ends inside a record"));
+        let [n, stride, m, len] = [next(), next(), next(), next()];
+        let call = PassCall {
+            kind: *KINDS.get(kind as usize).unwrap_or_else(|| stop("a kind above 2")),
+            n: n as usize,
+            c: (0..len).map(|_| next()).collect(),
+            stride: stride as usize,
+            min: -m,
+            max: m - 1,
+        };
+        let (answer, c) = call.wanted();
+        for word in [answer.number as i32, answer.place as i32, answer.mark.into()] {
+            put(&mut out, word);
+        }
+        c.into_iter().for_each(|v| put(&mut out, v));
+    }
+    out
+}
+
+fn blocks(seed: u64, count: u64, only: &[&str]) -> Vec<u8> {
+    let mut shapes = cases::block_shapes();
+    for word in only {
+        let (name, value) = word.split_once('=').unwrap_or_else(|| stop("expected NAME=NUMBER"));
+        let field: fn(&Shape) -> usize = match name {
+            "w" => |shape| shape.w,
+            "h" => |shape| shape.h,
+            "type" => |shape| shape.txtp,
+            "depth" => |shape| shape.depth,
+            _ => stop("NAME is w, h, type or depth"),
+        };
+        shapes.retain(|shape| field(shape) as u64 == number(value));
+    }
+    if shapes.is_empty() {
+        stop("no block is like that");
+    }
+    let mut rng = Rng(seed);
+    let mut out = Vec::new();
+    write_number(&mut out, 1);
+    for shape in shapes.into_iter().cycle().take(count as usize) {
+        cases::record(&mut rng, shape).write(&mut out);
+    }
+    out
+}
+
+fn blocks_done(bytes: &[u8]) -> Vec<u8> {
+    let mut reader = Reader(bytes);
+    let mut out = Vec::new();
+    if let Err(refusal) = reader.version() {
+        eprintln!("refused 0 {refusal}");
+        return out;
+    }
+    write_number(&mut out, 1);
+    for record_number in 1u64.. {
+        if reader.0.is_empty() {
+            break;
+        }
+        let done = reader.record().and_then(|mut record| {
+            let (answer, pixels, coeff) = record.call().wanted();
+            (record.pixels, record.coeff) = (pixels, coeff);
+            if answer.number == 0 {
+                Ok(record)
+            } else {
+                Err(answer.number)
+            }
+        });
+        match done {
+            Ok(record) => record.write(&mut out),
+            Err(refusal) => {
+                eprintln!("refused {record_number} {refusal}");
+                break;
+            }
+        }
+    }
+    out
+}
