@@ -21,7 +21,7 @@ use Rattle.levels.specs.Plans.{side}
 use Rattle.pixels.specs.Adds.{add-pixel}
 use Rattle.itx.specs.Av1.{bit-depth, held, av1-way}
 use Rattle.itx.specs.Calls.{Block, Call, verdict, short, live-rows, by-shortcut, by-passes, outcome-of, outcome}
-use Rattle.itx.proofs.Pixels.{rows-ext}
+use Rattle.pixels.proofs.Pixels.{rows-ext}
 use Rattle.itx.proofs.Verdicts.{Accepted, accepting}
 use Rattle.residual.specs.Blocks.{entered, row, middle, residual, prescale, if-wht, way}
 

@@ -1,7 +1,6 @@
 -- What is proved of the two-dimensional transform.
 pub mod Verdicts
 pub mod LiveRows
-pub mod Pixels
 pub mod Sameness
 pub mod Outcomes
 pub mod Shortcut
@@ -9,3 +8,4 @@ pub mod Demand3
 pub mod Av1Same
 pub mod Influence
 pub mod Known
+pub mod Opening

@@ -24,7 +24,7 @@ use Rattle.pixels.specs.Adds.{add-pixel}
 use Rattle.itx.specs.Calls.{Block, Call, plain, live, bad-rows, stray, checks, verdict, Outcome, short, live-rows, by-shortcut, by-passes, outcome-of, outcome}
 use Rattle.coefs.specs.Coefs.{Covers}
 use Rattle.itx.proofs.LiveRows.{quiet, residual-same, marked-same}
-use Rattle.itx.proofs.Pixels.{rows-ext}
+use Rattle.pixels.proofs.Pixels.{rows-ext}
 use Rattle.itx.proofs.Verdicts.{Accepted, accepting}
 
 -- ---- covering, by rows and by places

@@ -32,7 +32,7 @@ use Rattle.pixels.specs.Adds.{add-pixel, add-rows}
 use Rattle.itx.specs.Calls.{Block, plain, by-shortcut, by-passes, outcome}
 use Rattle.coefs.specs.Coefs.{Covers}
 use Rattle.itx.proofs.LiveRows.{prescale-zero}
-use Rattle.itx.proofs.Pixels.{pixel-waits, rows-ext}
+use Rattle.pixels.proofs.Pixels.{pixel-waits, rows-ext}
 use Rattle.itx.proofs.Sameness.{whole, rows-whole, sides, area-positive, opened}
 use Rattle.itx.proofs.Verdicts.{Accepted}
 

@@ -1,3 +1,4 @@
 -- What the two-dimensional transform is.
 pub mod Calls
 pub mod Av1
+pub mod Answers

@@ -11,23 +11,23 @@ use lib.Seq.{getD-set-same, getD-set-other}
 use Rattle.whole.proofs.Counts.{last-or-less}
 use Rattle.strided.specs.Planes.{Plane, start, bad-stride, row-outside, place}
 use Rattle.strided.proofs.Rows.{row-fits, rows-apart}
 use Rattle.pixels.specs.Adds.{add-pixel, add-row, add-rows}
 
 -- ---- one row
 
 module _ (top : ℕ) (ps : List ℕ) (from : ℕ) where
   pub row-length : (v : ℕ → ℤ) (k : ℕ) → length (add-row top ps from v k) ≡ length ps
-  unfolding Rattle.pixels.specs.Adds.add-row
+  unfolding add-row
   row-length v zero = refl
   row-length v (suc k) = length-set (add-row top ps from v k) _ _ ∙ row-length v k
 
   pub row-other : (v : ℕ → ℤ) (k i : ℕ) → ((x : ℕ) → x < k → i ≢ from + x) → getD (add-row top ps from v k) i 0 ≡ getD ps i 0
-  unfolding Rattle.pixels.specs.Adds.add-row
+  unfolding add-row
   row-other v zero i g = refl
   row-other v (suc k) i g = getD-set-other (add-row top ps from v k) (from + k) i _ 0 (g k (omega arith)) ∙ row-other v k i (λ x l. g x (omega arith))
 
   pub row-own : (v : ℕ → ℤ) (k x : ℕ) → x < k → from + k ≤ length ps → getD (add-row top ps from v k) (from + x) 0 ≡ add-pixel top (getD ps (from + x) 0) (v x)
-  unfolding Rattle.pixels.specs.Adds.add-row
+  unfolding add-row
   row-own v zero x l b = let e : ⊥ = omega arith in absurd e
   row-own v (suc k) x l b =
       let rest = add-row top ps from v k in
@@ -38,7 +38,7 @@ module _ (top : ℕ) (ps : List ℕ) (from : ℕ) where
 
   -- what is added alike leaves alike
   row-ext : (v u : ℕ → ℤ) (k : ℕ) → ((x : ℕ) → x < k → add-pixel top (getD ps (from + x) 0) (v x) ≡ add-pixel top (getD ps (from + x) 0) (u x)) → add-row top ps from v k ≡ add-row top ps from u k
-  unfolding Rattle.pixels.specs.Adds.add-row
+  unfolding add-row
   row-ext v u zero e = refl
   row-ext v u (suc k) e = ap₂ (λ (s : List ℕ) (z : ℕ). set s (from + k) z) (row-ext v u k (λ x l. e x (omega arith))) (e k (omega arith))
 
@@ -46,13 +46,13 @@ module _ (top : ℕ) (ps : List ℕ) (from : ℕ) where
 
 module _ (a : Plane) (top : ℕ) (v : ℕ → ℕ → ℤ) where
   pub rows-length : (w k : ℕ) → length (add-rows a top v w k) ≡ length (a .pixels)
-  unfolding Rattle.pixels.specs.Adds.add-rows
+  unfolding add-rows
   rows-length w zero = refl
   rows-length w (suc k) = row-length top (add-rows a top v w k) (natAbs (start a k)) (v k) w ∙ rows-length w k
 
   -- what is no pixel of the first k rows stays
   pub pixel-kept : (w k i : ℕ) → ((y x : ℕ) → y < k → x < w → i ≢ place a y x) → getD (add-rows a top v w k) i 0 ≡ getD (a .pixels) i 0
-  unfolding Rattle.pixels.specs.Adds.add-rows
+  unfolding add-rows
   pixel-kept w zero i f = refl
   pixel-kept w (suc k) i f = row-other top (add-rows a top v w k) (natAbs (start a k)) (v k) w i (λ x l. f k x (omega arith) l) ∙ pixel-kept w k i (λ y x l. f y x (omega arith))
 
@@ -63,7 +63,7 @@ module _ (a : Plane) (top : ℕ) (v : ℕ → ℕ → ℤ) where
 
     -- the pixel of row y, column x gets its number
     pub pixel-set : (k y x : ℕ) → k ≤ h → y < k → x < w → getD (add-rows a top v w k) (place a y x) 0 ≡ add-pixel top (getD (a .pixels) (place a y x) 0) (v y x)
-    unfolding Rattle.pixels.specs.Adds.add-rows
+    unfolding add-rows
     pixel-set zero y x l g m = let f : ⊥ = omega arith in absurd f
     pixel-set (suc k) y x l g m =
         let rest = add-rows a top v w k in
@@ -74,7 +74,7 @@ module _ (a : Plane) (top : ℕ) (v : ℕ → ℕ → ℤ) where
 pub rows-ext : (a : Plane) (top : ℕ) (v u : ℕ → ℕ → ℤ) (w k : ℕ)
     → ((y x : ℕ) → y < k → x < w → add-pixel top (getD (add-rows a top u w y) (place a y x) 0) (v y x) ≡ add-pixel top (getD (add-rows a top u w y) (place a y x) 0) (u y x))
     → add-rows a top v w k ≡ add-rows a top u w k
-unfolding Rattle.pixels.specs.Adds.add-rows
+unfolding add-rows
 rows-ext a top v u w zero e = refl
 rows-ext a top v u w (suc k) e =
     ap (λ (s : List ℕ). add-row top s (natAbs (start a k)) (v k) w) (rows-ext a top v u w k (λ y x l. e y x (omega arith)))

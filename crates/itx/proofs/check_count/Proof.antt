@@ -1,0 +1,30 @@
+-- `itx::check_count` meets its contract.
+use mathlib.Core.Path.{subst}
+use Prim.Native.Nat.{_*_, _≤_}
+use native.Mathlib.Nat.{mul-le-mul}
+use native.Mathlib.Omega.{arith}
+use lib.Dec.{ltb}
+use borrow.Author.Needs.{needs}
+use borrow.Author.Tests.{lt-ltb, le-ltb}
+use Rattle.itx.specs.Answers.{Within32}
+use Rattle.itx.proofs.Opening.{refuses, takes}
+use Rattle.itx.proofs.check_count.Statement.{statement}
+use Rattle.itx.proofs.check_count.Tie as tie
+
+mul-if1 : tie.Need-mul-if1
+mul-if1 c =
+    let b = c .before in
+    let s = b .before .before in
+    let k = subst Within32 (b .before2 .given .1) (s .pre) in
+    omega (arith, mul-le-mul (k .0) (k .1))
+
+pub check-count-spec : {M : Type 1} → statement M
+check-count-spec =
+    tie.close
+    (tie.spec
+    (λ c. search needs)
+    (λ c. search needs)
+    (λ c. search needs)
+    mul-if1
+    (λ c. let s = c .before .before .before .before in refuses 6 (λ a. ltb (s .args .count) (a .0 .w * a .0 .h)) (c .before .before .before2 .given .1) (lt-ltb _ _ (c .if1 .taken)))
+    (λ c. let s = c .before .before .before .before in takes 6 (λ a. ltb (s .args .count) (a .0 .w * a .0 .h)) (c .before .before .before2 .given .1) (le-ltb _ _ (c .if1 .left))))

@@ -1,0 +1,29 @@
+-- `itx::check_kind` meets its contract.
+use mathlib.Core.Path.{_≡_, sym, ap, _∙_}
+use borrow.Author.Needs.{needs}
+use Rattle.whole.specs.Checks.{Check, then}
+use Rattle.bitdepth.specs.Depths.{depth}
+use Rattle.levels.specs.declared.Decision.{Decision}
+use Rattle.levels.specs.declared.Plan.{Plan}
+use Rattle.levels.specs.Plans.{decision-of, plan}
+use Rattle.itx.proofs.Opening.{paired}
+use Rattle.itx.proofs.check_kind.Statement.{statement}
+use Rattle.itx.proofs.check_kind.Tie as tie
+
+-- with what `Plan::of` answered
+with-plan : (o : tie.After-of) (k : Decision) → o .of .result ≡ k → let s = o .before in
+    then (decision-of k) (λ p. then (depth (s .args .depth)) (paired p)) ≡ then (plan (s .args .w) (s .args .h) (s .args .txtp)) (λ p. then (depth (s .args .depth)) (paired p))
+with-plan o k e = let s = o .before in ap (λ (c : Check Plan). then c (λ p. then (depth (s .args .depth)) (paired p))) (ap decision-of (sym e) ∙ o .of .ensures)
+
+pub check-kind-spec : {M : Type 1} → statement M
+check-kind-spec =
+    tie.close
+    (tie.spec
+    (λ c κs. search needs)
+    (λ c. search needs)
+    (λ c κs. search needs)
+    (λ c. search needs)
+    (λ c. search needs)
+    (λ c. let k = c .before .before in c .check-depth .ensures ∙ with-plan (k .before .before) _ (k .decision .given .1))
+    (λ c. with-plan (c .before .before) _ (c .enum-told .given .1))
+    (λ c. with-plan (c .before .before) _ (c .enum-told2 .given .1)))

@@ -1,0 +1,96 @@
+-- What the answers of the calls and of their checks say, in document 01's numbers.
+use mathlib.Core.List.{List}
+use mathlib.Core.Path.{_≡_}
+use Prim.Native.Nat.{ℕ, _*_, _≤_}
+use lib.IntN.{ℤ}
+use Rattle.whole.specs.Numbers.{outside, low, high}
+use Rattle.whole.specs.Lists.{at, first}
+use Rattle.whole.specs.Checks.{Check, accept, refuse, unless, unless-at}
+use Rattle.bitdepth.specs.declared.Depth.{Depth}
+use Rattle.bitdepth.specs.Depths.{row-range}
+use Rattle.coefs.specs.Coefs.{in-dead-row}
+use Rattle.levels.specs.declared.Plan.{Plan}
+use Rattle.strided.specs.Planes.{in-pixels, bad-stride, rows-outside}
+use Rattle.itx_1d.specs.Calls as Passes
+use Rattle.itx.specs.declared.Answer.{Answer}
+use Rattle.itx.specs.declared.Answer.the-variants.{Done, Refused}
+use Rattle.itx.specs.declared.Refusal.{Refusal}
+use Rattle.itx.specs.declared.Refusal.the-variants.{NoSize, NoType, NoDepth, NegativeEob, NoSuchRows, FewCoefficients, BadStride, RowOutside, OutOfRange, Stray}
+use Rattle.itx.specs.declared.Verdict.{Verdict}
+use Rattle.itx.specs.declared.Verdict.the-variants.{Go, Stop}
+use Rattle.itx.specs.declared.Placed.{Placed}
+use Rattle.itx.specs.declared.Placed.the-variants.{At, Halt}
+
+-- the table of "Numbers of refusal"
+abbrev pub number : Refusal → ℕ
+number NoSize = 1
+number NoType = 2
+number NoDepth = 3
+number NegativeEob = 4
+number NoSuchRows = 5
+number FewCoefficients = 6
+number BadStride = 7
+number RowOutside = 8
+number (OutOfRange i) = 9
+number (Stray i) = 10
+
+-- "9 and 10 carry the place of the first offender .. others carry 0"
+abbrev pub place : Refusal → ℕ
+place NoSize = 0
+place NoType = 0
+place NoDepth = 0
+place NegativeEob = 0
+place NoSuchRows = 0
+place FewCoefficients = 0
+place BadStride = 0
+place RowOutside = 0
+place (OutOfRange i) = i
+place (Stray i) = i
+
+abbrev pub answer-of : Answer → Passes.Answer
+answer-of (Done mark) = Passes.acceptance mark
+answer-of (Refused r) = Passes.refusal (number r) (place r)
+
+-- ---- the checks on the way
+
+abbrev pub verdict-of : Verdict → Check (Plan × Depth)
+verdict-of (Go p d) = accept (p, d)
+verdict-of (Stop r) = refuse (number r) (place r)
+
+abbrev pub placed-of : Placed → Check (Plan × Depth)
+placed-of (At p d s) = accept (p, d)
+placed-of (Halt r) = refuse (number r) (place r)
+
+-- the stride that goes with a place is the one asked for, in pixels
+abbrev pub Turned : ℤ → Placed → Type 0
+Turned bytes (At p d s) = s .0 ≡ in-pixels bytes
+Turned bytes (Halt r) = Unit {0}
+
+-- what a check may take for granted of the plan it is handed
+abbrev pub Within32 : Verdict → Type 0
+Within32 (Go p d) = (p .w ≤ 32) × (p .h ≤ 32)
+Within32 (Stop r) = Unit {0}
+
+abbrev pub Enough : ℕ → Placed → Type 0
+Enough count (At p d s) = p .w * p .h ≤ count
+Enough count (Halt r) = Unit {0}
+
+abbrev pub RowsIn : ℕ → Placed → Type 0
+RowsIn r (At p d s) = r ≤ p .h
+RowsIn r (Halt x) = Unit {0}
+
+-- a later check hands on what it was given, or stops
+abbrev pub Handed : Placed → Placed → Type 0
+Handed before (At p d s) = before ≡ At p d s
+Handed before (Halt r) = Unit {0}
+
+-- ---- the checks themselves, each of the plan and depth that it is handed
+
+abbrev pub plane-check : ℕ → ℕ → ℤ → Plan × Depth → Check (Plan × Depth)
+plane-check size offset bytes a = unless (bad-stride (a .0 .w) bytes) 7 (unless (rows-outside size offset (in-pixels bytes) (a .0 .w) (a .0 .h)) 8 (accept a))
+
+abbrev pub range-check : List ℤ → Plan × Depth → Check (Plan × Depth)
+range-check c a = unless-at (first (a .0 .w * a .0 .h) (λ i. outside (at c i) (low (row-range (a .1))) (high (row-range (a .1))))) 9 (accept a)
+
+abbrev pub stray-check : ℕ → List ℤ → Plan × Depth → Check (Plan × Depth)
+stray-check r c a = unless-at (first (a .0 .w * a .0 .h) (in-dead-row r (a .0 .h) c)) 10 (accept a)

@@ -1,0 +1,2 @@
+-- Laws of the pixels.
+pub mod Pixels

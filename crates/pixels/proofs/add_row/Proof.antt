@@ -1,0 +1,125 @@
+-- `pixels::add_row` meets its contract.
+use mathlib.Core.Path.{_≡_, refl, sym, ap, _∙_, subst⁻¹}
+use mathlib.Core.List.{List, [], _∷_}
+use Prim.Native.Nat.{ℕ, _+_, _-_, _≤_, _<_}
+use native.Mathlib.Nat.{le-trans}
+use native.Mathlib.Numerals.{add-one}
+use native.Mathlib.Omega.{arith}
+use lib.Dec.{lit≤}
+use lib.IntN.{ℤ, pos, natAbs}
+use lib.ListN.{length, set, getD}
+use mir.Syntax.{w32}
+use mir.Val.{toZ, ofZ}
+use mir.ValLaws.{toZ-ofZ}
+use Rattle.whole.specs.Numbers.{round2}
+use Rattle.whole.specs.Lists.{at}
+use Rattle.whole.proofs.Machine.{var, lit, _⊕_, _≫_, bound}
+use Rattle.itx_1d.specs.declared.Kind.{Kind}
+use Rattle.itx_1d.specs.declared.Kind.the-variants.{Dct, Identity, Wht}
+use Rattle.pixels.specs.Adds.{add-pixel, add-row}
+use Rattle.pixels.specs.Inner.{left}
+use Rattle.pixels.proofs.Pixels.{row-length, row-other}
+use Rattle.pixels.proofs.add_row.Statement.{statement}
+use Rattle.pixels.proofs.add_row.Tie as tie
+
+-- rounding leaves a number small
+round-small : (v : ℤ) → natAbs v ≤ 16777216 → natAbs (round2 v 4) ≤ 16777216
+unfolding Rattle.whole.specs.Numbers.round2 Rattle.whole.specs.Numbers._>>_
+round-small v l = le-trans (bound (v ∷ []) (16777216 ∷ []) (l, tt) (var 0 ⊕ lit (pos 8) ≫ 4)) (lit≤ tt)
+
+left-small : (k : Kind) (v : ℤ) → natAbs v ≤ 16777216 → natAbs (left k v) ≤ 16777216
+left-small Wht v l = l
+left-small Dct v l = round-small v l
+left-small Identity v l = round-small v l
+
+abbrev Inv-loop : tie.InvT-loop
+Inv-loop ps₀ from t start columns w top x₀ ps x = (ps ≡ add-row top ps₀ from (λ i. left columns (at t (start + i))) x) × (x ≤ w)
+
+abbrev μ-loop : tie.MeasureT-loop
+μ-loop ps₀ from t start columns w top x₀ ps x = w - x
+
+-- what is added in column x
+abbrev added : tie.Start Inv-loop μ-loop → ℕ → ℤ
+added s x = left (s .args .columns) (at (s .args .t .now) (s .args .start + x))
+
+as-long : (c : tie.At-loop Inv-loop μ-loop) → length (c .loop .ps) ≡ length (c .before .before .args .ps .now)
+as-long c = ap length (c .loop .inv .0) ∙ row-length _ _ _ _ (c .loop .x)
+
+module _ (c : tie.In-loop Inv-loop μ-loop) where
+  abbrev s : tie.Start Inv-loop μ-loop
+  s = c .before .before .before
+
+  abbrev column : ℕ
+  column = c .before .loop .x
+
+  there : s .args .start + column < length (s .args .t .now)
+  there = s .pre .numbers .there column (c .loop-test .taken)
+
+  small : natAbs (at (s .args .t .now) (s .args .start + column)) ≤ 16777216
+  small = s .pre .numbers .small column (c .loop-test .taken)
+
+  -- the pixel's place is in the slice, as it was and as it is
+  here : s .args .from + column < length (s .args .ps .now)
+  here = omega (arith, c .loop-test .taken, s .pre .pixels)
+
+  here-still : s .args .from + column < length (c .before .loop .ps)
+  here-still = omega (arith, here, as-long (c .before))
+
+-- the number, and what is added, as they are held
+number : (c : tie.After-leave-arg Inv-loop μ-loop) → let i = c .before in let v = at (s i .args .t .now) (s i .args .start + column i) in toZ w32 (ofZ w32 v) ≡ v
+number c = toZ-ofZ w32 _ (record { sfits = c .leave-arg .given })
+
+value : (c : tie.After-leave Inv-loop μ-loop) → let i = c .before .before in toZ w32 (ofZ w32 (c .leave .result)) ≡ added (s i) (column i)
+value c = toZ-ofZ w32 (c .leave .result) (record { sfits = c .leave .ok }) ∙ c .leave .ensures ∙ ap (left (s (c .before .before) .args .columns)) (number (c .before))
+
+add-pixel-requires : tie.Need-add-pixel-requires Inv-loop μ-loop
+add-pixel-requires c κs =
+    let i = c .before .before .before in
+    subst⁻¹ (λ (z : ℤ). natAbs z ≤ 16777216) (value (c .before)) (left-small (s i .args .columns) (at (s i .args .t .now) (s i .args .start + column i)) (small i))
+
+loop-holds : tie.Need-loop-holds Inv-loop μ-loop
+unfolding add-row
+loop-holds c = (refl, omega arith)
+
+loop-again : tie.Need-loop-again Inv-loop μ-loop
+unfolding add-row
+loop-again c =
+    let i = c .before .before .before .before in
+    let a = s i .args in
+    let l = i .before .loop in
+    let place = a .from + l .x in
+    -- the pixel is still what it was
+    let p = ap (λ (ps : List ℕ). getD ps place 0) (l .inv .0) ∙ row-other (a .top) (a .ps .now) (a .from) (added (s i)) (l .x) place (λ x m e. omega arith) in
+    let v = value (c .before .before) in
+    let q = c .add-pixel .ensures ∙ (λ k. add-pixel (a .top) (p k) (v k)) in
+    ((λ k. set (l .inv .0 k) place (q k)) ∙ ap (add-row (a .top) (a .ps .now) (a .from) (added (s i))) (sym (add-one (l .x))), omega (arith, i .loop-test .taken))
+
+returns : tie.Need-returns Inv-loop μ-loop
+returns c =
+    let b = c .before .before .before in
+    let l = c .before .loop in
+    l .inv .0 ∙ ap (add-row (b .args .top) (b .args .ps .now) (b .args .from) (added b)) (omega (arith, l .inv .1, c .loop-test .left))
+
+pub add-row-spec : {M : Type 1} → statement M
+add-row-spec =
+    tie.close
+    (tie.spec
+    Inv-loop
+    μ-loop
+    loop-holds
+    (λ c. omega (arith, there c, s c .good .1 .1 .0 .0))
+    (λ c. omega (arith, there c, s c .good .1 .1 .0 .1))
+    (λ c. there c)
+    (λ c κs. subst⁻¹ (λ (z : ℤ). natAbs z ≤ 16777216) (number c) (small (c .before)))
+    (λ c. let i = c .before .before in omega (arith, here i, s i .good .0 .0))
+    (λ c. let i = c .before .before in omega (arith, here i, s i .good .0 .1))
+    (λ c. here-still (c .before .before .before))
+    add-pixel-requires
+    (λ c. let i = c .before .before .before .before in omega (arith, here i, s i .good .0 .0))
+    (λ c. let i = c .before .before .before .before in omega (arith, here i, s i .good .0 .1))
+    (λ c. here-still (c .before .before .before .before))
+    (λ c. let i = c .before .before .before .before in omega (arith, i .loop-test .taken, s i .fits .w))
+    (λ c. omega arith)
+    loop-again
+    (λ c. as-long (c .before))
+    returns)

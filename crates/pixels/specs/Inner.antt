@@ -1,0 +1,31 @@
+-- What adding a row, and a block, asks.
+use mathlib.Core.Path.{_≡_}
+use mathlib.Core.Bool.{false}
+use mathlib.Core.List.{List}
+use Prim.Native.Nat.{ℕ, _+_, _*_, _≤_, _<_}
+use lib.IntN.{ℤ, natAbs}
+use lib.ListN.{length}
+use Rattle.whole.specs.Numbers.{round2}
+use Rattle.whole.specs.Lists.{at}
+use Rattle.itx_1d.specs.declared.Kind.{Kind}
+use Rattle.strided.specs.Planes.{rows-outside}
+use Rattle.residual.specs.Blocks.{if-wht}
+
+-- what a column pass leaves, rounded as it is added: "v + 8 >> 4", and v itself for WHT_WHT
+abbrev pub left : Kind → ℤ → ℤ
+left columns v = if-wht columns v (round2 v 4)
+
+-- w numbers stand in t from `start` on, and are small
+pub record Small (start w : ℕ) (t : List ℤ) : Type 0 where
+  pub there : (x : ℕ) → x < w → start + x < length t
+  pub small : (x : ℕ) → x < w → natAbs (at t (start + x)) ≤ 16777216
+
+pub record RowAdds (from start w : ℕ) (ps : List ℕ) (t : List ℤ) : Type 0 where
+  pub pixels : from + w ≤ length ps
+  pub numbers : Small start w t
+
+pub record Adding (offset : ℕ) (stride : ℤ) (step w h : ℕ) (ps : List ℕ) (t : List ℤ) : Type 0 where
+  pub height : h ≤ 32
+  pub step-small : step ≤ 32
+  pub inside : rows-outside (length ps) offset stride w h ≡ false
+  pub numbers : (y : ℕ) → y < h → Small (y * step) w t
