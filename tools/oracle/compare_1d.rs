@@ -1,5 +1,4 @@
-//! Compares the exported passes of `libitx_1d.a` with the Rust: compare_1d [COUNT [SEED]], COUNT for each kind, length
-//! and range.
+//! Compares the exported passes with the Rust: compare_1d [COUNT [SEED]], COUNT for each kind, length and range.
 
 use kernels::calls::{Answer, PassCall};
 use kernels::cases;

@@ -1,5 +1,5 @@
-//! Compares the exported calls of `libitx.a` with the Rust: compare_2d [COUNT [SEED]], COUNT blocks for each size, type
-//! and depth, each by the plain call and by the live-row call with every r that covers it.
+//! Compares the exported calls with the Rust: compare_2d [COUNT [SEED]], COUNT blocks for each size, type and depth, each
+//! by the plain call and by the live-row call with every r that covers it.
 
 use kernels::calls::{Answer, BlockCall, Rows};
 use kernels::cases::{self, Rng, Shape};

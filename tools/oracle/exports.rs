@@ -1,4 +1,4 @@
-//! The functions that the archives of `rt staticlib` export. A slice passes as a pointer, then a length.
+//! The functions that `libsgrifomel.a` exports. A slice passes as a pointer, then a length.
 
 macro_rules! passes {
     ($($name:ident),*) => {
@@ -7,8 +7,6 @@ macro_rules! passes {
         }
     };
 }
-
-// libitx_1d.a.
 
 passes!(
     sgrifomel_inv_dct4_1d,
@@ -24,8 +22,6 @@ passes!(
 extern "C" {
     pub fn sgrifomel_inv_wht4_1d(c: *mut i32, len: usize, stride: usize) -> u64;
 }
-
-// libitx.a.
 
 extern "C" {
     pub fn sgrifomel_inv_txfm_add(

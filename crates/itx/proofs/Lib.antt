@@ -9,3 +9,5 @@ pub mod Av1Same
 pub mod Influence
 pub mod Known
 pub mod Opening
+pub mod Chain
+pub mod Accepted

@@ -1,5 +1,5 @@
 -- A check after one that went well.
-use mathlib.Core.Path.{_≡_, refl, sym, ap, _∙_, subst⁻¹}
+use mathlib.Core.Path.{_≡_, refl, sym, ap, _∙_, subst, subst⁻¹}
 use mathlib.Core.Bool.{Bool, true, false, not}
 use mathlib.Core.Option.{Option}
 use Prim.Native.Nat.{ℕ}
@@ -19,7 +19,7 @@ use Rattle.itx.specs.declared.Verdict.{Verdict}
 use Rattle.itx.specs.declared.Verdict.the-variants.{Go, Stop}
 use Rattle.itx.specs.declared.Placed.{Placed}
 use Rattle.itx.specs.declared.Placed.the-variants.{At, Halt}
-use Rattle.itx.specs.Answers.{verdict-of, placed-of, Handed}
+use Rattle.itx.specs.Answers.{verdict-of, placed-of, Handed, Turned}
 
 -- the next check decides
 pub opened : {v : Verdict} {p : Plan} {d : Depth} (f : Plan × Depth → Check (Plan × Depth)) → v ≡ Go p d → f (p, d) ≡ then (verdict-of v) f
@@ -56,3 +56,8 @@ halted f e = (ap placed-of e ∙ ap (λ (v : Placed). then (placed-of v) f) (sym
 -- a search decides by what it found
 pub searched : {v : Placed} {p : Plan} {d : Depth} {s : PixelStride} (n : ℕ) (g : Plan × Depth → Option ℕ) {o : Option ℕ} → v ≡ At p d s → o ≡ g (p, d) → unless-at o n (accept (p, d)) ≡ then (placed-of v) (λ a. unless-at (g a) n (accept a))
 searched {p = p} {d = d} n g e q = (λ i. unless-at (q i) n (accept (p, d))) ∙ opened-at (λ a. unless-at (g a) n (accept a)) e
+
+-- a stride that was turned stays so
+pub still-turned : (before after : Placed) (bytes : ℤ) → Handed before after → Turned bytes before → Turned bytes after
+still-turned before (At p d s) bytes e t = subst (Turned bytes) e t
+still-turned before (Halt r) bytes e t = tt

@@ -54,7 +54,7 @@ module _ (w h : ℕ) (h-pos : 0 < h) (c : List ℤ) (r : ℕ) where
       let s = first-none (w * h) (stray (live r) h c) e (y + x * h) j in
       is-zero (at c (y + x * h)) (sym (ap (λ (t : Bool). t && nonzero (at c (y + x * h))) (ap (leb r) m ∙ le-leb r y a)) ∙ s)
 
-second-true : (s t : Bool) → not (s && t) ≡ false → t ≡ true
+pub second-true : (s t : Bool) → not (s && t) ≡ false → t ≡ true
 second-true true true e = refl
 second-true true false e = sym e
 second-true false true e = refl

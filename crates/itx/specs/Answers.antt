@@ -1,17 +1,23 @@
 -- What the answers of the calls and of their checks say, in document 01's numbers.
-use mathlib.Core.List.{List}
+use mathlib.Core.Bool.{Bool, false}
+use mathlib.Core.List.{List, _++_}
 use mathlib.Core.Path.{_≡_}
 use Prim.Native.Nat.{ℕ, _*_, _≤_}
-use lib.IntN.{ℤ}
+use lib.IntN.{ℤ, pos}
+use lib.ListN.{length, set, replicate, drop}
 use Rattle.whole.specs.Numbers.{outside, low, high}
 use Rattle.whole.specs.Lists.{at, first}
 use Rattle.whole.specs.Checks.{Check, accept, refuse, unless, unless-at}
 use Rattle.bitdepth.specs.declared.Depth.{Depth}
-use Rattle.bitdepth.specs.Depths.{row-range}
+use Rattle.bitdepth.specs.Depths.{row-range, maximum}
 use Rattle.coefs.specs.Coefs.{in-dead-row}
 use Rattle.levels.specs.declared.Plan.{Plan}
-use Rattle.strided.specs.Planes.{in-pixels, bad-stride, rows-outside}
+use Rattle.strided.specs.Planes.{Plane, in-pixels, bad-stride, rows-outside, lent}
+use Rattle.pixels.specs.Adds.{add-rows}
+use Rattle.residual.specs.Blocks.{way, residual, marked, shortcut}
+use Rattle.residual.specs.Inner.{Sized, Coefs}
 use Rattle.itx_1d.specs.Calls as Passes
+use Rattle.itx.specs.Calls.{Block}
 use Rattle.itx.specs.declared.Answer.{Answer}
 use Rattle.itx.specs.declared.Answer.the-variants.{Done, Refused}
 use Rattle.itx.specs.declared.Refusal.{Refusal}
@@ -94,3 +100,27 @@ range-check c a = unless-at (first (a .0 .w * a .0 .h) (λ i. outside (at c i) (
 
 abbrev pub stray-check : ℕ → List ℤ → Plan × Depth → Check (Plan × Depth)
 stray-check r c a = unless-at (first (a .0 .w * a .0 .h) (in-dead-row r (a .0 .h) c)) 10 (accept a)
+
+-- ---- the block that a call is given
+
+abbrev pub block : ℕ → ℕ → ℕ → ℕ → List ℤ → Plane → Block
+block w h type depth coefs plane = record { w = w; h = h; type = type; depth = depth; coefs = coefs; plane = plane }
+
+-- what the ways ask
+pub record Ready (p : Plan) (offset : ℕ) (stride : ℤ) (ps : List ℕ) (c : List ℤ) : Type 0 where
+  pub sized : Sized p
+  pub coefs : Coefs p c
+  pub inside : rows-outside (length ps) offset stride (p .w) (p .h) ≡ false
+
+-- what they leave: pixels ps and coefficients c become ps′ and c′
+pub record Added (p : Plan) (d : Depth) (offset : ℕ) (stride : ℤ) (ps : List ℕ) (v : ℕ → ℕ → ℤ) (ps′ : List ℕ) : Type 0 where
+  pub pixels-are : (bytes : ℤ) → in-pixels bytes ≡ stride → ps′ ≡ add-rows (lent ps offset bytes) (maximum d) v (p .w) (p .h)
+
+pub record Passed (p : Plan) (d : Depth) (offset : ℕ) (stride : ℤ) (r : ℕ) (ps : List ℕ) (c : List ℤ) (mark : Bool) (ps′ : List ℕ) (c′ : List ℤ) : Type 0 where
+  pub mark-is : mark ≡ marked (way p d) c r
+  pub added : Added p d offset stride ps (residual (way p d) c r) ps′
+  pub coefs-are : c′ ≡ replicate (p .w * p .h) (pos 0) ++ drop (p .w * p .h) c
+
+pub record Shortened (p : Plan) (d : Depth) (offset : ℕ) (stride : ℤ) (ps : List ℕ) (c : List ℤ) (ps′ : List ℕ) (c′ : List ℤ) : Type 0 where
+  pub added : Added p d offset stride ps (λ y x. shortcut p (at c 0)) ps′
+  pub coefs-are : c′ ≡ set c 0 (pos 0)

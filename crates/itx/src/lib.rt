@@ -5,17 +5,32 @@ ghost use Prim.Native.Nat.{ℕ, _*_, _≤_};
 ghost use lib.Dec.{ltb, leb};
 ghost use lib.IntN.{ℤ};
 ghost use lib.ListN.{length};
+ghost use mathlib.Core.List.{List};
+ghost use Rattle.strided.specs.Planes.{lent};
 ghost use lib.Signed.{nonNeg};
 ghost use Rattle.whole.specs.Checks.{accept, then, unless};
 ghost use Rattle.bitdepth.specs.Depths as Depths;
 ghost use Rattle.levels.specs.Plans as Plans;
 ghost use Rattle.itx.specs.Calls as Calls;
-ghost use Rattle.itx.specs.Answers.{number, place, answer-of, verdict-of, placed-of, Turned, Within32, Enough, RowsIn, Handed, plane-check, range-check, stray-check};
-
-use bitdepth::{Depth, DepthCheck, Range};
-use coefs::{Found, first_outside, first_stray};
-use levels::{Decision, Plan};
-use strided::{ByteStride, PixelStride, RowsCheck, StrideCheck};
+ghost use Rattle.itx.specs.Answers.{number, place, answer-of, verdict-of, placed-of, Turned, Within32, Enough, RowsIn, Handed, plane-check, range-check, stray-check, block, Ready, Passed, Shortened};
+use bitdepth::Depth;
+use bitdepth::DepthCheck;
+use bitdepth::Range;
+use coefs::Found;
+use coefs::clear;
+use coefs::first_outside;
+use coefs::first_stray;
+use coefs::live_rows;
+use itx_1d::Kind;
+use levels::Decision;
+use levels::Plan;
+use pixels::add_block;
+use residual::resolve;
+use residual::shortcut;
+use strided::ByteStride;
+use strided::PixelStride;
+use strided::RowsCheck;
+use strided::StrideCheck;
 
 // Document 01, "Numbers of refusal", 1 to 10.
 pub enum Refusal {
@@ -171,4 +186,165 @@ fn check_stray(before: Placed, coeff: &[i32], r: usize) -> Placed
         return before;
     };
     Placed::Halt(Refusal::Stray(i))
+}
+
+// The long way: steps 1 to 7 with r live rows.
+fn by_passes(
+    dst: &mut [u16],
+    offset: u32,
+    stride: PixelStride,
+    coeff: &mut [i32],
+    plan: Plan,
+    depth: Depth,
+    r: usize,
+) -> bool
+    requires { ⌜ Ready plan offset (stride .0) (now dst) (now coeff) × (r ≤ plan .h) ⌝ }
+    ensures { λ m. ⌜ Passed plan depth offset (stride .0) r (now (dst .entry)) (now (coeff .entry)) m (now (dst .exit)) (now (coeff .exit)) ⌝ }
+{
+    let w = plan.w;
+    let h = plan.h;
+    let columns = plan.columns;
+    let top = depth.maximum();
+    let mut t = [0i32; 1024];
+    let mark = resolve(&mut t, plan, depth, &*coeff, r);
+    add_block(&mut *dst, offset, stride, &t, w, columns, w, h, top);
+    clear(&mut *coeff, w * h);
+    mark
+}
+
+// The shortcut is due: DCT_DCT with eob 0.
+fn is_short(plan: Plan, eob: i32) -> bool
+    ensures { λ r. ⌜ r ≡ Calls.short (Calls.plain eob) plan ⌝ }
+{
+    let rows = plan.rows;
+    let columns = plan.columns;
+    if eob != 0 {
+        return false;
+    }
+    let Kind::Dct = rows else {
+        return false;
+    };
+    let Kind::Dct = columns else {
+        return false;
+    };
+    true
+}
+
+// Numbers 1 to 9.
+fn check_plain(
+    size: usize,
+    offset: u32,
+    stride: ByteStride,
+    coeff: &[i32],
+    eob: i32,
+    w: usize,
+    h: usize,
+    txtp: usize,
+    depth: usize,
+) -> Placed
+    ensures { λ r. ⌜ ((ps : List ℕ) → length ps ≡ size → placed-of r ≡ Calls.verdict (Calls.plain eob) (block w h txtp depth (now (coeff .entry)) (lent ps offset (stride .0)))) × Turned (stride .0) r ⌝ }
+{
+    let kind = check_kind(w, h, txtp, depth);
+    let known = check_eob(kind, eob);
+    let counted = check_count(known, coeff.len());
+    let placed = check_plane(counted, size, offset, stride);
+    check_range(placed, coeff)
+}
+
+// Numbers 1 to 3 and 5 to 10.
+fn check_live(
+    size: usize,
+    offset: u32,
+    stride: ByteStride,
+    coeff: &[i32],
+    r: usize,
+    w: usize,
+    h: usize,
+    txtp: usize,
+    depth: usize,
+) -> Placed
+    ensures { λ v. ⌜ ((ps : List ℕ) → length ps ≡ size → placed-of v ≡ Calls.verdict (Calls.live r) (block w h txtp depth (now (coeff .entry)) (lent ps offset (stride .0)))) × Turned (stride .0) v ⌝ }
+{
+    let kind = check_kind(w, h, txtp, depth);
+    let known = check_rows(kind, r);
+    let counted = check_count(known, coeff.len());
+    let placed = check_plane(counted, size, offset, stride);
+    let ranged = check_range(placed, coeff);
+    check_stray(ranged, coeff, r)
+}
+
+// The shortcut: every pixel gets the same number, so one row of it serves, taken as it is.
+fn by_shortcut(
+    dst: &mut [u16],
+    offset: u32,
+    stride: PixelStride,
+    coeff: &mut [i32],
+    plan: Plan,
+    depth: Depth,
+)
+    requires { ⌜ Ready plan offset (stride .0) (now dst) (now coeff) ⌝ }
+    ensures { λ _. ⌜ Shortened plan depth offset (stride .0) (now (dst .entry)) (now (coeff .entry)) (now (dst .exit)) (now (coeff .exit)) ⌝ }
+{
+    let w = plan.w;
+    let h = plan.h;
+    let top = depth.maximum();
+    let first = coeff[0];
+    let v = shortcut(plan, first);
+    let t = [v; 32];
+    add_block(&mut *dst, offset, stride, &t, 0, Kind::Wht, w, h, top);
+    coeff[0] = 0;
+}
+
+// The plain call.
+pub fn inv_txfm_add(
+    dst: &mut [u16],
+    offset: u32,
+    stride: ByteStride,
+    coeff: &mut [i32],
+    eob: i32,
+    w: usize,
+    h: usize,
+    txtp: usize,
+    depth: usize,
+) -> Answer
+    ensures { λ r. ⌜ Calls.Meets (Calls.plain eob) (block w h txtp depth (now (coeff .entry)) (lent (now (dst .entry)) offset (stride .0))) (answer-of r) (now (dst .exit)) (now (coeff .exit)) ⌝ }
+{
+    let checked = check_plain(dst.len(), offset, stride, &*coeff, eob, w, h, txtp, depth);
+    match checked {
+        Placed::Halt(refusal) => Answer::Refused(refusal),
+        Placed::At(plan, d, pixels) => {
+            if is_short(plan, eob) {
+                by_shortcut(dst, offset, pixels, coeff, plan, d);
+                return Answer::Done(false);
+            }
+            // Rows that are zero are passed over: that changes nothing, by demand 3.
+            let r = live_rows(&*coeff, plan.w, plan.h);
+            let mark = by_passes(dst, offset, pixels, coeff, plan, d, r);
+            Answer::Done(mark)
+        }
+    }
+}
+
+// The live-row call.
+pub fn inv_txfm_add_live(
+    dst: &mut [u16],
+    offset: u32,
+    stride: ByteStride,
+    coeff: &mut [i32],
+    r: usize,
+    w: usize,
+    h: usize,
+    txtp: usize,
+    depth: usize,
+) -> Answer
+    ensures { λ a. ⌜ Calls.Meets (Calls.live r) (block w h txtp depth (now (coeff .entry)) (lent (now (dst .entry)) offset (stride .0))) (answer-of a) (now (dst .exit)) (now (coeff .exit)) ⌝ }
+{
+    let checked = check_live(dst.len(), offset, stride, &*coeff, r, w, h, txtp, depth);
+    match checked {
+        Placed::Halt(refusal) => Answer::Refused(refusal),
+        Placed::At(plan, d, pixels) => {
+            let mark = by_passes(dst, offset, pixels, coeff, plan, d, r);
+            Answer::Done(mark)
+        }
+    }
 }

@@ -2,7 +2,7 @@
 use mathlib.Core.Path.{_≡_, refl, subst⁻¹}
 use mathlib.Core.Bool.{Bool, true, false, cond, _||_}
 use mathlib.Core.List.{List, [], _∷_}
-use Prim.Native.Nat.{ℕ, _+_, _*_, _≤_}
+use Prim.Native.Nat.{ℕ, zero, suc, _+_, _*_, _≤_}
 use native.Mathlib.Nat.{le-trans}
 use native.Mathlib.Omega.{arith}
 use lib.Dec.{eqb, lit≤}
@@ -30,6 +30,13 @@ unfolding Rattle.whole.specs.Numbers._>>_
 entering-small Wht w h v l = le-trans (bound (v ∷ []) (524288 ∷ []) (l, tt) (var 0 ≫ 2)) (lit≤ tt)
 entering-small Dct w h v l = prescaled w h v l
 entering-small Identity w h v l = prescaled w h v l
+
+pub rounded-small : (v : ℤ) (k : ℕ) → natAbs v ≤ 524288 → k ≤ 2 → natAbs (round2 v k) ≤ 524288
+unfolding Rattle.whole.specs.Numbers.round2 Rattle.whole.specs.Numbers._>>_
+rounded-small v zero l g = l
+rounded-small v (suc zero) l g = le-trans (bound (v ∷ []) (524288 ∷ []) (l, tt) (var 0 ⊕ lit (pos 1) ≫ 1)) (lit≤ tt)
+rounded-small v (suc (suc zero)) l g = le-trans (bound (v ∷ []) (524288 ∷ []) (l, tt) (var 0 ⊕ lit (pos 2) ≫ 2)) (lit≤ tt)
+rounded-small v (suc (suc (suc k))) l g = omega (arith, g)
 
 pub at-most : (k : Kind) → 524288 ≤ most k
 at-most Dct = lit≤ tt

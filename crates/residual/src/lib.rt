@@ -63,6 +63,20 @@ pub fn leave(columns: Kind, v: i32) -> i32
     v + 8 >> 4
 }
 
+// The shortcut's number: what DCT_DCT with eob 0 adds to every pixel.
+pub fn shortcut(plan: Plan, v: i32) -> i32
+    requires { ⌜ Inner.Sized plan × (natAbs v ≤ 524288) ⌝ }
+    ensures { λ r. ⌜ (r ≡ Blocks.shortcut plan v) × (natAbs r ≤ 16777216) ⌝ }
+{
+    let w = plan.w;
+    let h = plan.h;
+    let shift = plan.shift;
+    let d = enter(Kind::Dct, w, h, v);
+    let d = d * 181 + 128 >> 8;
+    let d = rounded(d, shift);
+    d * 181 + 2176 >> 12
+}
+
 // Row y of the coefficients, which stand column by column.
 fn load_row(t: &mut [i32], plan: Plan, coeff: &[i32], y: usize)
     requires { ⌜ Inner.RowLoads plan (now coeff) y (now t) ⌝ }

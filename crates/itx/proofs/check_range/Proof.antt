@@ -53,11 +53,11 @@ check-range-spec =
     (λ c. search needs)
     (λ c. search needs)
     (λ c.
-        let o = c .before .before in
-        let a = o .before .before .before .before in
-        let e = a .before .before2 .given .1 in
-        (searched 9 (offender (begun a)) e (told o (c .enum-told2 .given .1)), e))
+    let o = c .before .before in
+    let a = o .before .before .before .before in
+    let e = a .before .before2 .given .1 in
+    (searched 9 (offender (begun a)) e (told o (c .enum-told2 .given .1)), e))
     (λ c.
-        let o = c .before .before .before in
-        let a = o .before .before .before .before in
-        (searched 9 (offender (begun a)) (a .before .before2 .given .1) (told o (c .before .found .given .1)), tt)))
+    let o = c .before .before .before in
+    let a = o .before .before .before .before in
+    (searched 9 (offender (begun a)) (a .before .before2 .given .1) (told o (c .before .found .given .1)), tt)))

@@ -30,9 +30,9 @@ check-stray-spec =
     (λ c. search needs)
     (λ c. search needs)
     (λ c.
-        let o = c .before .before in
-        let e = o .before .before .before2 .given .1 in
-        (searched 10 (offender (begun (o .before))) e (ap found (sym (c .enum-told2 .given .1)) ∙ o .first-stray .ensures), e))
+    let o = c .before .before in
+    let e = o .before .before .before2 .given .1 in
+    (searched 10 (offender (begun (o .before))) e (ap found (sym (c .enum-told2 .given .1)) ∙ o .first-stray .ensures), e))
     (λ c.
-        let o = c .before .before .before in
-        (searched 10 (offender (begun (o .before))) (o .before .before .before2 .given .1) (ap found (sym (c .before .found .given .1)) ∙ o .first-stray .ensures), tt)))
+    let o = c .before .before .before in
+    (searched 10 (offender (begun (o .before))) (o .before .before .before2 .given .1) (ap found (sym (c .before .found .given .1)) ∙ o .first-stray .ensures), tt)))

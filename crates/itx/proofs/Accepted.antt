@@ -1,0 +1,145 @@
+-- What an accepted block gives the two ways, and what they leave is the outcome.
+use mathlib.Core.Path.{_≡_, refl, sym, ap, _∙_, subst}
+use mathlib.Core.Bool.{Bool, true, false, cond, _&&_, _||_}
+use mathlib.Core.List.{List}
+use Prim.Native.Nat.{ℕ, _*_, _≤_, _<_}
+use native.Mathlib.Omega.{arith}
+use borrow.Author.Tests.{ltb-false}
+use lib.Dec.{T, eqb, eqb→eq, leb, lit≤}
+use lib.IntN.{ℤ, natAbs}
+use lib.ListN.{length}
+use mir.Facts.{and-yes}
+use Rattle.whole.specs.Numbers.{outside, low, high}
+use Rattle.whole.specs.Lists.{at}
+use Rattle.whole.specs.Checks.{Check, accept, refuse}
+use Rattle.whole.proofs.Checks.{refuse≢accept, same-accept}
+use Rattle.whole.proofs.Clips.{inside-abs}
+use Rattle.whole.proofs.Counts.{first-none}
+use Rattle.itx_1d.specs.declared.Kind.{Kind}
+use Rattle.itx_1d.specs.declared.Kind.the-variants.{Dct, Identity, Wht}
+use Rattle.itx_1d.specs.Calls.{acceptance}
+use Rattle.itx_1d.specs.Inner.{Lined}
+use Rattle.bitdepth.specs.declared.Depth.{Depth}
+use Rattle.bitdepth.specs.Depths.{row-range}
+use Rattle.levels.specs.declared.Plan.{Plan}
+use Rattle.levels.specs.Plans.{among, shift-0, shift-1, shift-2, shift-of, kinds-of, where-small, plan}
+use Rattle.levels.proofs.Sizes.{plan-of, plan-sided}
+use Rattle.strided.specs.Planes.{in-pixels, rows-outside, lent}
+use Rattle.residual.specs.Blocks.{way}
+use Rattle.residual.specs.Inner.{Sized, Coefs}
+use Rattle.residual.proofs.Ends.{row-reach, size}
+use Rattle.itx.specs.declared.Refusal.{Refusal}
+use Rattle.itx.specs.Calls.{Block, Call, Outcome, Meets, verdict, outcome, outcome-of, short, live-rows, by-shortcut, by-passes}
+use Rattle.itx.specs.Answers.{number, place, block, Ready, Passed, Shortened}
+use Rattle.itx.proofs.Sameness.{opened}
+use Rattle.itx.proofs.Verdicts.{Accepted}
+
+-- ---- a plan's kinds fit its sides
+
+pub record Fitting (w h : ℕ) (k : Kind × Kind) : Type 0 where
+  pub along : Lined (k .0) w
+  pub down : Lined (k .1) h
+  pub both : k .0 ≡ Wht → k .1 ≡ Wht
+
+abbrev tag : Kind → ℕ
+tag Dct = 0
+tag Identity = 1
+tag Wht = 2
+
+not-wht : {k : Kind} {A : Type 0} → tag k ≤ 1 → k ≡ Wht → A
+not-wht {k} l e = let t : tag k ≡ 2 = ap tag e in let f : ⊥ = omega (arith, l, t) in absurd f
+
+-- two kinds of which none is the WHT
+plainly : (w h : ℕ) (k : Kind × Kind) → Lined (k .0) w → Lined (k .1) h → tag (k .0) ≤ 1 → {j : Kind × Kind} → accept k ≡ accept j → Fitting w h j
+plainly w h k a d l {j} e = subst (Fitting w h) (same-accept k j e) (record { along = a; down = d; both = not-wht l })
+
+module _ (w h : ℕ) (k : Kind × Kind) where
+  smaller : (rows columns : Kind) → Lined rows w → Lined columns h → tag rows ≤ 1 → where-small w h rows columns ≡ accept k → Fitting w h k
+  smaller rows columns a d l = go (leb (w * h) 128 || (eqb w 16 && eqb h 16))
+    where
+      go : (t : Bool) → cond t (accept (rows, columns)) (refuse 2 0) ≡ accept k → Fitting w h k
+      go true e = plainly w h (rows, columns) a d l e
+      go false e = absurd (refuse≢accept 2 0 k e)
+
+  pub fitting : (type : ℕ) → kinds-of w h type ≡ accept k → Fitting w h k
+  fitting type = go (eqb type 0) (eqb type 9) (eqb type 10) (eqb type 11) (eqb type 16 && (eqb w 4 && eqb h 4)) refl
+    where
+      go : (t₀ t₉ t₁₀ t₁₁ t₁₆ : Bool) → eqb type 16 && (eqb w 4 && eqb h 4) ≡ t₁₆
+          → cond t₀ (accept (Dct, Dct)) (cond t₉ (accept (Identity, Identity)) (cond t₁₀ (where-small w h Identity Dct) (cond t₁₁ (where-small w h Dct Identity) (cond t₁₆ (accept (Wht, Wht)) (refuse 2 0))))) ≡ accept k
+          → Fitting w h k
+      go true b c d f g e = plainly w h (Dct, Dct) tt tt (lit≤ tt) e
+      go false true c d f g e = plainly w h (Identity, Identity) tt tt (lit≤ tt) e
+      go false false true d f g e = smaller Identity Dct tt tt (lit≤ tt) e
+      go false false false true f g e = smaller Dct Identity tt tt (lit≤ tt) e
+      go false false false false true g e =
+          let u = and-yes (eqb type 16) (eqb w 4 && eqb h 4) (subst T (sym g) tt) in
+          let v = and-yes (eqb w 4) (eqb h 4) (u .1) in
+          subst (Fitting w h) (same-accept (Wht, Wht) k e) (record { along = eqb→eq w 4 (v .0); down = eqb→eq h 4 (v .1); both = λ q. refl })
+      go false false false false false g e = absurd (refuse≢accept 2 0 k e)
+
+shift-most : (w h s : ℕ) → shift-of w h ≡ accept s → s ≤ 2
+shift-most w h s = go (among w h shift-0) (among w h shift-1) (among w h shift-2)
+  where
+    go : (a b c : Bool) → cond a (accept 0) (cond b (accept 1) (cond c (accept 2) (refuse 1 0))) ≡ accept s → s ≤ 2
+    go true b c e = omega (arith, same-accept 0 s e)
+    go false true c e = omega (arith, same-accept 1 s e)
+    go false false true e = omega (arith, same-accept 2 s e)
+    go false false false e = absurd (refuse≢accept 1 0 s e)
+
+pub sized : (w h type : ℕ) (p : Plan) → plan w h type ≡ accept p → Sized p
+sized w h type p e =
+    let s = plan-sided w h type p e in
+    let k = plan-of w h type p e in
+    let f = fitting w h (p .rows, p .columns) type (k .kinds-are) in
+    record {
+      width = s .0;
+      height = s .1;
+      shift-small = shift-most w h (p .shift) (k .shift-is);
+      row-length = subst (Lined (p .rows)) (sym (k .w-is)) (f .along);
+      column-length = subst (Lined (p .columns)) (sym (k .h-is)) (f .down);
+      wht-both = f .both;
+    }
+
+-- ---- a block as a call is given it
+
+module _ (call : Call) (w h type depth offset : ℕ) (bytes : ℤ) (ps : List ℕ) (c : List ℤ) where
+  abbrev given : Block
+  given = block w h type depth c (lent ps offset bytes)
+
+  pub refusal-meets : (r : Refusal) → verdict call given ≡ refuse (number r) (place r) → Meets call given (Rattle.itx_1d.specs.Calls.refusal (number r) (place r)) ps c
+  unfolding outcome
+  refusal-meets r e =
+      let o = ap (outcome-of way call given) (sym e) in
+      record { answer-is = ap (λ (o : Outcome). o .answer) o; pixels-are = ap (λ (o : Outcome). o .pixels) o; coefs-are = ap (λ (o : Outcome). o .coefs) o }
+
+  module _ (p : Plan) (d : Depth) (a : Accepted call given p d) (stride : ℤ) (turned : stride ≡ in-pixels bytes) where
+    pub ready : Ready p offset stride ps c
+    ready = record {
+      sized = sized w h type p (a .planned);
+      coefs = record {
+        count = ltb-false (length c) (p .w * p .h) (a .enough);
+        small = λ i l. let m = row-reach d in inside-abs (at c i) (low (row-range d)) (high (row-range d)) (first-none (p .w * p .h) (λ i. outside (at c i) (low (row-range d)) (high (row-range d))) (a .ranged) i l) (omega (arith, size m, m .small)) (omega (arith, m .small));
+      };
+      inside = ap (λ (z : ℤ). rows-outside (length ps) offset z (p .w) (p .h)) turned ∙ a .inside;
+    }
+
+    abbrev long : ℕ → Outcome
+    long r = by-passes given p d (way p d) r
+
+    taken : (t : Bool) → short call p ≡ t → outcome call given ≡ cond t (by-shortcut given p d) (long (live-rows call p))
+    taken t e = opened given p d call a ∙ ap (λ (t : Bool). cond t (by-shortcut given p d) (long (live-rows call p))) e
+
+    -- the long way with r rows, where that leaves the same as with the call's
+    pub passes-meet : (r : ℕ) {mark : Bool} {ps′ : List ℕ} {c′ : List ℤ} → short call p ≡ false → long r ≡ long (live-rows call p) → Passed p d offset stride r ps c mark ps′ c′ → Meets call given (acceptance mark) ps′ c′
+    passes-meet r s q m =
+        let o = q ∙ sym (taken false s) in
+        record {
+          answer-is = ap acceptance (m .mark-is) ∙ ap (λ (o : Outcome). o .answer) o;
+          pixels-are = m .added .pixels-are bytes (sym turned) ∙ ap (λ (o : Outcome). o .pixels) o;
+          coefs-are = m .coefs-are ∙ ap (λ (o : Outcome). o .coefs) o;
+        }
+
+    pub shortcut-meets : {ps′ : List ℕ} {c′ : List ℤ} → short call p ≡ true → Shortened p d offset stride ps c ps′ c′ → Meets call given (acceptance false) ps′ c′
+    shortcut-meets s m =
+        let o = sym (taken true s) in
+        record { answer-is = ap (λ (o : Outcome). o .answer) o; pixels-are = m .added .pixels-are bytes (sym turned) ∙ ap (λ (o : Outcome). o .pixels) o; coefs-are = m .coefs-are ∙ ap (λ (o : Outcome). o .coefs) o }

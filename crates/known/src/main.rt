@@ -1,0 +1,8 @@
+// Runs document 01's known results and both sides of its edges, and writes a line for each: the call, then number, place,
+// mark and elements.
+mod passes;
+mod show;
+
+fn main() {
+    passes::all();
+}

@@ -1,0 +1,53 @@
+// The parts of a line: a call with its arguments, then its answer and what it left.
+use words::bits;
+
+fn signed(v: i32) {
+    io::write_all(1, b" ");
+    if v < 0 {
+        io::write_all(1, b"-");
+        io::print_decimal(1, 4294967296 - (bits(v) as u64));
+    } else {
+        io::print_decimal(1, bits(v) as u64);
+    }
+}
+
+pub fn elements(c: &[i32]) {
+    for i in 0..c.len() {
+        let v = c[i];
+        signed(v);
+    }
+}
+
+pub fn call(name: &[u8], n: usize, c: &[i32], stride: usize) {
+    io::write_all(1, name);
+    io::print_decimal(1, n as u64);
+    elements(c);
+    io::write_all(1, b" stride ");
+    io::print_decimal(1, stride as u64);
+}
+
+pub fn range(min: i32, max: i32) {
+    io::write_all(1, b" range");
+    signed(min);
+    signed(max);
+}
+
+fn mark(is_marked: bool) {
+    if is_marked {
+        io::write_all(1, b" yes");
+    } else {
+        io::write_all(1, b" no");
+    }
+}
+
+pub fn answer(number: u64, place: u64, is_marked: bool) {
+    io::write_all(1, b": ");
+    io::print_decimal(1, number);
+    io::write_all(1, b" ");
+    io::print_decimal(1, place);
+    mark(is_marked);
+}
+
+pub fn end() {
+    io::write_all(1, b"\n");
+}

@@ -1,0 +1,82 @@
+-- The place of an answer is an element's number, so its word holds it.
+use mathlib.Core.Path.{_≡_, refl, ap, _∙_, subst⁻¹}
+use mathlib.Core.Bool.{Bool, true, false, cond}
+use mathlib.Core.List.{List}
+use mathlib.Core.Option.{Option, none, some}
+use Prim.Native.Nat.{ℕ, zero, suc, _*_, _-_, _≤_, _<_}
+use native.Mathlib.Omega.{arith}
+use lib.Dec.{eqb, leb}
+use lib.IntN.{ℤ, natAbs}
+use lib.ListN.{length}
+use Rattle.whole.specs.Numbers.{outside, low, high}
+use Rattle.whole.specs.Lists.{at, first, one-more}
+use Rattle.whole.specs.Checks.{Check, accept, refuse, unless, unless-at}
+use Rattle.av1.specs.Sides.{Side, of4, of8, of16, of32, len}
+use Rattle.itx_1d.specs.declared.Kind.{Kind}
+use Rattle.itx_1d.specs.declared.Kind.the-variants.{Wht}
+use Rattle.itx_1d.specs.declared.Pass.{Pass}
+use Rattle.itx_1d.specs.Calls.{Answer, Outcome, answer-of, bad-range, checks, outcome-of, accepted, ranged, unranged, Meets}
+use Rattle.sgrifomel.specs.Words.{packed, Packs}
+
+-- what is found is one of the n
+headed : (b : Bool) (o : Option ℕ) (n i : ℕ) → ((j : ℕ) → o ≡ some j → j < n) → cond b (some 0) (one-more o) ≡ some i → i < suc n
+headed true o n i h e = let z : _≡_ {A = ℕ} 0 i = cc in omega arith
+headed false none n i h e = let z : _≡_ {A = ℕ} 0 1 = cc in let x : ⊥ = omega arith in absurd x
+headed false (some j) n i h e = let z : suc j ≡ i = cc in omega (arith, h j refl)
+
+first-below : (n : ℕ) (f : ℕ → Bool) (i : ℕ) → first n f ≡ some i → i < n
+first-below zero f i e = let z : _≡_ {A = ℕ} 0 1 = cc in let x : ⊥ = omega arith in absurd x
+first-below (suc n) f i e = headed (f zero) (first n (λ j. f (suc j))) n i (first-below n (λ j. f (suc j))) e
+
+-- the place that a check gives is small
+abbrev Small : Check (Unit {0}) → Type 0
+Small (accept u) = Unit {0}
+Small (refuse number i) = i < 1024
+
+small-unless : (t : Bool) (number : ℕ) (k : Check (Unit {0})) → Small k → Small (unless t number k)
+small-unless true number k h = omega arith
+small-unless false number k h = h
+
+small-at : (p : Option ℕ) (number : ℕ) (k : Check (Unit {0})) → ((i : ℕ) → p ≡ some i → i < 1024) → Small k → Small (unless-at p number k)
+small-at (some i) number k b h = b i refl
+small-at none number k b h = h
+
+small-checks : (n : ℕ) (c : List ℤ) (s : ℕ) (lo hi : ℤ) → n ≤ 32 → Small (checks n c s lo hi)
+small-checks n c s lo hi l =
+    small-unless (eqb s 0) 12 _
+    (small-unless (leb (length c) ((n - 1) * s)) 13 _
+    (small-at (first n (λ i. outside (at c (i * s)) lo hi)) 14 (accept tt)
+    (λ i e. omega (arith, first-below n (λ i. outside (at c (i * s)) lo hi) i e))
+    tt))
+
+-- and so is that of the outcome
+small-outcome : (c : List ℤ) (o : Outcome) (k : Check (Unit {0})) → o .answer .place ≡ 0 → Small k → outcome-of c o k .answer .place < 1024
+small-outcome c o (accept u) e h = omega arith
+small-outcome c o (refuse number i) e h = h
+
+len-small : (n : Side) → len n ≤ 32
+len-small of4 = omega arith
+len-small of8 = omega arith
+len-small of16 = omega arith
+len-small of32 = omega arith
+
+pub small-ranged : (kind : Kind) (n : Side) (c : List ℤ) (s : ℕ) (lo hi : ℤ) → ranged kind n c s lo hi .answer .place < 1024
+unfolding ranged
+small-ranged kind n c s lo hi =
+    let k = checks (len n) c s lo hi in
+    small-outcome c (accepted kind n (natAbs lo) s c) (unless (bad-range lo hi) 11 k) refl
+    (small-unless (bad-range lo hi) 11 k (small-checks (len n) c s lo hi (len-small n)))
+
+pub small-unranged : (c : List ℤ) (s : ℕ) → unranged c s .answer .place < 1024
+unfolding unranged
+small-unranged c s =
+    let lo = low 16777216 in
+    let hi = high 16777216 in
+    small-outcome c (accepted Wht of4 16777216 s c) (checks 4 c s lo hi) refl (small-checks 4 c s lo hi (omega arith))
+
+-- so an answer that meets an outcome with such a place can be packed, and the word is the outcome's
+pub packable : {o : Outcome} {r : Pass} {d : List ℤ} → o .answer .place < 1024 → Meets o r d → answer-of r .place < 1024
+packable h m = subst⁻¹ (λ (a : Answer). a .place < 1024) (m .answer) h
+
+pub packs : {o : Outcome} {r : Pass} {d : List ℤ} {w : ℕ} → Meets o r d → w ≡ packed (answer-of r) → Packs o w d
+packs m e = record { answer = e ∙ ap packed (m .answer); elements = m .elements }

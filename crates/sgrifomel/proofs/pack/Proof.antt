@@ -1,0 +1,36 @@
+-- `sgrifomel::pack` meets its contract.
+use mathlib.Core.Path.{_≡_, sym, ap, _∙_, subst}
+use Prim.Native.Nat.{ℕ, _<_}
+use native.Mathlib.Omega.{arith}
+use borrow.Author.Needs.{needs}
+use Rattle.itx_1d.specs.declared.Pass.{Pass}
+use Rattle.itx_1d.specs.declared.Pass.the-variants.{Done}
+use Rattle.itx_1d.specs.Calls.{answer-of}
+use Rattle.sgrifomel.specs.Words.{packed}
+use Rattle.sgrifomel.proofs.pack.Statement.{statement}
+use Rattle.sgrifomel.proofs.pack.Tie as tie
+
+abbrev word : Pass → ℕ
+word p = packed (answer-of p)
+
+-- the number of an element that was found
+small : (c : tie.After-known-told2) → c .before .pass2 .given .0 .0 < 1024
+small c = subst (λ (p : Pass). answer-of p .place < 1024) (c .before .pass2 .given .1) (c .before .before .before .pre)
+
+pub pack-spec : {M : Type 1} → statement M
+pack-spec =
+    tie.close
+    (tie.spec
+    (λ c. search needs)
+    (λ c. search needs)
+    (λ c. search needs)
+    (λ c. search needs)
+    (λ c. search needs)
+    (λ c. omega (arith, small c))
+    (λ c. omega (arith, small c))
+    (λ c. ap word (sym (c .before .before .pass .given .1 ∙ ap Done (c .if1 .taken))))
+    (λ c. ap word (sym (c .before .before .pass .given .1 ∙ ap Done (c .if1 .left))))
+    (λ c. ap word (sym (c .enum-told .given .1)))
+    (λ c. ap word (sym (c .enum-told2 .given .1)))
+    (λ c. ap word (sym (c .enum-told3 .given .1)))
+    (λ c. ap word (sym (c .before .pass2 .given .1))))

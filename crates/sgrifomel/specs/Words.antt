@@ -1,0 +1,16 @@
+-- An answer as C gets it: one word, as include/sgrifomel.h says.
+use mathlib.Core.Path.{_≡_}
+use mathlib.Core.Bool.{cond}
+use mathlib.Core.List.{List}
+use Prim.Native.Nat.{ℕ, _+_, _*_}
+use lib.IntN.{ℤ}
+use Rattle.itx_1d.specs.Calls.{Answer, Outcome}
+
+-- the number in bits 0 to 7, the mark in bit 8, the place from bit 16 up
+abbrev pub packed : Answer → ℕ
+packed a = a .number + 256 * cond (a .mark) 1 0 + 65536 * a .place
+
+-- what an exported pass answers and leaves
+pub record Packs (o : Outcome) (r : ℕ) (c : List ℤ) : Type 0 where
+  pub answer : r ≡ packed (o .answer)
+  pub elements : c ≡ o .elements

@@ -1,0 +1,59 @@
+// Words of 32 bits, low byte first, as tools/oracle writes them, and the signed numbers that they hold.
+ghost use mathlib.Core.Path.{_≡_};
+ghost use Prim.Native.Nat.{_+_, _≤_, _<_};
+ghost use lib.ListN.{length};
+ghost use lib.Seq.{sets};
+ghost use mir.Syntax.{w32};
+ghost use mir.Val.{toZ, ofZ};
+ghost use Rattle.words.specs.Bytes.{word, spelled};
+
+fn wide(x: u8) -> u32
+    ensures { λ r. ⌜ (r ≡ x) × (r < 256) ⌝ }
+{
+    x as u32
+}
+
+pub fn word_at(b: &[u8], at: usize) -> u32
+    requires { ⌜ at + 4 ≤ length (now b) ⌝ }
+    ensures { λ r. ⌜ r ≡ word (now (b .entry)) at ⌝ }
+{
+    let b0 = wide(b[at]);
+    let b1 = wide(b[at + 1]);
+    let b2 = wide(b[at + 2]);
+    let b3 = wide(b[at + 3]);
+    b0 + 256 * b1 + 65536 * b2 + 16777216 * b3
+}
+
+pub fn put_word(b: &mut [u8], at: usize, w: u32)
+    requires { ⌜ at + 4 ≤ length (now b) ⌝ }
+    ensures { λ _. ⌜ now (b .exit) ≡ sets (now (b .entry)) at (spelled w) ⌝ }
+{
+    b[at] = (w % 256) as u8;
+    b[at + 1] = (w / 256 % 256) as u8;
+    b[at + 2] = (w / 65536 % 256) as u8;
+    b[at + 3] = (w / 16777216) as u8;
+}
+
+// The number that a word holds in two's complement.
+pub fn signed(w: u32) -> i32
+    ensures { λ r. ⌜ r ≡ toZ w32 w ⌝ }
+{
+    if w < 2147483648 {
+        w as i32
+    } else {
+        let n = 4294967295 - w;
+        -1 - (n as i32)
+    }
+}
+
+// The word that holds a number in two's complement.
+pub fn bits(v: i32) -> u32
+    ensures { λ r. ⌜ r ≡ ofZ w32 v ⌝ }
+{
+    if v < 0 {
+        let n = -1 - v;
+        4294967295 - (n as u32)
+    } else {
+        v as u32
+    }
+}

@@ -1,0 +1,61 @@
+/* The calls of libsgrifomel.a (rt staticlib sgrifomel). */
+#ifndef SGRIFOMEL_H
+#define SGRIFOMEL_H
+
+#include <stddef.h>
+#include <stdint.h>
+
+#ifdef __cplusplus
+extern "C" {
+#endif
+
+/* A call answers one word: the number of the refusal in bits 0 to 7, or 0; the mark in bit 8; the place from bit 16 up. */
+static inline unsigned sgrifomel_number(uint64_t answer) {
+    return (unsigned)(answer & 0xff);
+}
+
+static inline int sgrifomel_mark(uint64_t answer) {
+    return (int)(answer >> 8 & 1);
+}
+
+static inline uint64_t sgrifomel_place(uint64_t answer) {
+    return answer >> 16;
+}
+
+/* The numbers of refusal, in the order of the checks. A refusal leaves every buffer as it was, with mark 0. 9, 10 and 14
+   carry the place of the first offender, counted from 0; the others carry 0. */
+enum {
+    SGRIFOMEL_ACCEPTED = 0,
+    SGRIFOMEL_SIZE = 1,         /* size not among the fourteen */
+    SGRIFOMEL_TYPE = 2,         /* type unknown, or not for this size */
+    SGRIFOMEL_DEPTH = 3,        /* depth not 8, 10, 12 */
+    SGRIFOMEL_EOB = 4,          /* eob negative */
+    SGRIFOMEL_LIVE_ROWS = 5,    /* r not in 1..h */
+    SGRIFOMEL_COEFFICIENTS = 6, /* fewer than w*h coefficients */
+    SGRIFOMEL_STRIDE = 7,       /* byte stride odd, or pixel stride between -(w-1) and w-1 */
+    SGRIFOMEL_ROW = 8,          /* some row not wholly inside the plane */
+    SGRIFOMEL_RANGE = 9,        /* one of the first w*h coefficients outside the row range */
+    SGRIFOMEL_STRAY = 10,       /* nonzero coefficient in a row r or later */
+    SGRIFOMEL_PASS_RANGE = 11,  /* min..max not -m..m-1 with m 32768, 131072 or 524288 */
+    SGRIFOMEL_PASS_STRIDE = 12, /* stride 0 */
+    SGRIFOMEL_PASS_SHORT = 13,  /* c ends before the last element */
+    SGRIFOMEL_PASS_ELEMENT = 14 /* element outside min..max; for the WHT outside -16777216..16777215 */
+};
+
+/* One-dimensional passes over elements 0, stride, 2*stride, .. of the len numbers at c, which nothing else may touch during
+   the call. The name has the number of elements; what stands between and after them stays. */
+uint64_t sgrifomel_inv_dct4_1d(int32_t *c, size_t len, size_t stride, int32_t min, int32_t max);
+uint64_t sgrifomel_inv_dct8_1d(int32_t *c, size_t len, size_t stride, int32_t min, int32_t max);
+uint64_t sgrifomel_inv_dct16_1d(int32_t *c, size_t len, size_t stride, int32_t min, int32_t max);
+uint64_t sgrifomel_inv_dct32_1d(int32_t *c, size_t len, size_t stride, int32_t min, int32_t max);
+uint64_t sgrifomel_inv_identity4_1d(int32_t *c, size_t len, size_t stride, int32_t min, int32_t max);
+uint64_t sgrifomel_inv_identity8_1d(int32_t *c, size_t len, size_t stride, int32_t min, int32_t max);
+uint64_t sgrifomel_inv_identity16_1d(int32_t *c, size_t len, size_t stride, int32_t min, int32_t max);
+uint64_t sgrifomel_inv_identity32_1d(int32_t *c, size_t len, size_t stride, int32_t min, int32_t max);
+uint64_t sgrifomel_inv_wht4_1d(int32_t *c, size_t len, size_t stride);
+
+#ifdef __cplusplus
+}
+#endif
+
+#endif
