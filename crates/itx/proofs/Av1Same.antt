@@ -11,13 +11,13 @@ use Rattle.whole.specs.Lists.{at, tab, any}
 use Rattle.whole.proofs.Clips.{or-false}
 use Rattle.whole.proofs.Counts.{tab-ext, none-of-any}
 use Rattle.whole.proofs.Ranges.{by-181}
+use Rattle.av1.specs.Sides.{side}
 use Rattle.itx_1d.specs.Passes.{clip-acts}
 use Rattle.itx_1d.proofs.PassLaws.{av1-pass, pass-av1}
 use Rattle.bitdepth.specs.declared.Depth.{Depth}
 use Rattle.bitdepth.specs.declared.Depth.the-variants.{Eight, Ten, Twelve}
 use Rattle.bitdepth.specs.Depths.{row-range, column-range, maximum}
 use Rattle.levels.specs.declared.Plan.{Plan}
-use Rattle.levels.specs.Plans.{side}
 use Rattle.pixels.specs.Adds.{add-pixel}
 use Rattle.itx.specs.Av1.{bit-depth, held, av1-way}
 use Rattle.itx.specs.Calls.{Block, Call, verdict, short, live-rows, by-shortcut, by-passes, outcome-of, outcome}

@@ -11,3 +11,4 @@ pub mod Known
 pub mod Opening
 pub mod Chain
 pub mod Accepted
+pub mod Unique

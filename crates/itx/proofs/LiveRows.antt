@@ -14,6 +14,7 @@ use Rattle.whole.specs.Lists.{at}
 use Rattle.whole.proofs.Clips.{clip-inside}
 use Rattle.whole.proofs.Counts.{tab-ext, any-ext, any-upto}
 use Rattle.whole.proofs.Ranges.{zero-inside}
+use Rattle.av1.specs.Sides.{side}
 use Rattle.itx_1d.specs.declared.Kind.{Kind}
 use Rattle.itx_1d.specs.declared.Kind.the-variants.{Dct, Identity, Wht}
 use Rattle.itx_1d.specs.Passes.{Passed, pass}
@@ -21,7 +22,6 @@ use Rattle.itx_1d.proofs.PassLaws.{zeros, zero-pass, zero-unmarked}
 use Rattle.bitdepth.specs.declared.Depth.{Depth}
 use Rattle.bitdepth.specs.Depths.{row-range, column-range}
 use Rattle.levels.specs.declared.Plan.{Plan}
-use Rattle.levels.specs.Plans.{side}
 use Rattle.levels.proofs.Sizes.{Sided}
 use Rattle.coefs.specs.Coefs.{Covers}
 use Rattle.residual.specs.Blocks.{Way, entered, row, middle, column, residual, marked, prescale, if-wht, way}

@@ -16,6 +16,7 @@ use Rattle.whole.proofs.Clips.{clip-low, clip-high, clip-none, clip-kept}
 use Rattle.whole.proofs.Counts.{tab-ext, any-none, first-none}
 use Rattle.whole.proofs.Parts.{pp, nn, rep-self, rep-add, parts-lt}
 use Rattle.whole.proofs.Ranges.{zero-inside, scaled-inside, rounded-twice, rounded-mono, clip-floor, clip-top}
+use Rattle.av1.specs.Sides.{side}
 use Rattle.itx_1d.specs.declared.Kind.the-variants.{Dct}
 use Rattle.itx_1d.specs.Calls.{acceptance}
 use Rattle.itx_1d.specs.Passes.{Passed, pass}
@@ -24,7 +25,6 @@ use Rattle.bitdepth.specs.declared.Depth.{Depth}
 use Rattle.bitdepth.specs.declared.Depth.the-variants.{Eight, Ten, Twelve}
 use Rattle.bitdepth.specs.Depths.{row-range, column-range, maximum}
 use Rattle.levels.specs.declared.Plan.{Plan}
-use Rattle.levels.specs.Plans.{side}
 use Rattle.levels.proofs.Sizes.{Sided, side-bounds}
 use Rattle.strided.specs.Planes.{place}
 use Rattle.residual.specs.Blocks.{Way, way, entered, row, middle, column, residual, marked, prescale, shortcut}

@@ -4,11 +4,11 @@ use Prim.Native.Nat.{ℕ, _+_, _-_, _*_, _^_, max}
 use lib.Dec.{eqb}
 use lib.IntN.{ℤ, pos, _*ℤ_}
 use Rattle.whole.specs.Numbers.{_>>_, round2, clip, low, high}
+use Rattle.av1.specs.Sides.{side}
 use Rattle.itx_1d.proofs.PassLaws.{av1-pass}
 use Rattle.bitdepth.specs.declared.Depth.{Depth}
 use Rattle.bitdepth.specs.declared.Depth.the-variants.{Eight, Ten, Twelve}
 use Rattle.levels.specs.declared.Plan.{Plan}
-use Rattle.levels.specs.Plans.{side}
 use Rattle.residual.specs.Blocks.{Way, if-wht}
 
 abbrev pub bit-depth : Depth → ℕ

@@ -12,7 +12,8 @@ ghost use Rattle.whole.specs.Checks.{accept, then, unless};
 ghost use Rattle.bitdepth.specs.Depths as Depths;
 ghost use Rattle.levels.specs.Plans as Plans;
 ghost use Rattle.itx.specs.Calls as Calls;
-ghost use Rattle.itx.specs.Answers.{number, place, answer-of, verdict-of, placed-of, Turned, Within32, Enough, RowsIn, Handed, plane-check, range-check, stray-check, block, Ready, Passed, Shortened};
+ghost use Rattle.itx.specs.Answers as Answers;
+ghost use Rattle.itx.specs.Answers.{answer-of, verdict-of, placed-of, Turned, Within32, Enough, RowsIn, Handed, plane-check, range-check, stray-check, block, Ready, Passed, Shortened};
 use bitdepth::Depth;
 use bitdepth::DepthCheck;
 use bitdepth::Range;
@@ -50,6 +51,33 @@ pub enum Refusal {
 pub enum Answer {
     Done(bool),
     Refused(Refusal),
+}
+
+// Document 01's number of an answer; 0 is an acceptance.
+pub fn number(answer: Answer) -> u8
+    ensures { λ r. ⌜ r ≡ answer-of answer .number ⌝ }
+{
+    match answer {
+        Answer::Done(_) => 0,
+        Answer::Refused(refusal) => number_of(refusal),
+    }
+}
+
+fn number_of(refusal: Refusal) -> u8
+    ensures { λ r. ⌜ r ≡ Answers.number refusal ⌝ }
+{
+    match refusal {
+        Refusal::NoSize => 1,
+        Refusal::NoType => 2,
+        Refusal::NoDepth => 3,
+        Refusal::NegativeEob => 4,
+        Refusal::NoSuchRows => 5,
+        Refusal::FewCoefficients => 6,
+        Refusal::BadStride => 7,
+        Refusal::RowOutside => 8,
+        Refusal::OutOfRange(_) => 9,
+        Refusal::Stray(_) => 10,
+    }
 }
 
 // What the checks have found out so far.

@@ -21,14 +21,14 @@ use Rattle.whole.specs.Checks.{accept, unless, unless-at}
 use Rattle.whole.proofs.Clips.{inside-abs}
 use Rattle.whole.proofs.Counts.{first-none}
 use Rattle.whole.proofs.Held.{same-is}
-use Rattle.av1.specs.Sides.{Side, len}
+use Rattle.av1.specs.Sides.{Side, len, side}
 use Rattle.itx_1d.specs.declared.Kind.{Kind}
 use Rattle.itx_1d.specs.declared.Kind.the-variants.{Wht}
 use Rattle.itx_1d.specs.declared.Pass.{Pass}
 use Rattle.itx_1d.specs.declared.Pass.the-variants.{Done, Range, Stride, Short, Element}
 use Rattle.itx_1d.specs.Passes.{Passed, pass}
 use Rattle.itx_1d.specs.Calls.{Outcome, acceptance, taken, put, outcome-of, is-range, bad-range, accepted, ranged, Meets}
-use Rattle.itx_1d.specs.Inner.{sided, after, range-check, place-check, element-check, Passable, Ranged, PassIs}
+use Rattle.itx_1d.specs.Inner.{after, range-check, place-check, element-check, Passable, Ranged, PassIs}
 use Rattle.itx_1d.proofs.Pass.{the-type}
 use Rattle.itx_1d.proofs.Checks.{is-done, refuse}
 use Rattle.itx_1d.proofs.Strides.{in-reach}
@@ -65,7 +65,7 @@ refused-is false false false none c out h = absurd (miss (1 ∷ 2 ∷ 3 ∷ 4 �
 
 -- ---- what is known after an acceptance
 
-pub passable : {t : Bool} (c : List ℤ) (s n : ℕ) (lo hi : ℤ) {k : ℕ} → len (sided n) ≡ n → natAbs lo ≤ k → natAbs hi ≤ k
+pub passable : {t : Bool} (c : List ℤ) (s n : ℕ) (lo hi : ℤ) {k : ℕ} → len (side n) ≡ n → natAbs lo ≤ k → natAbs hi ≤ k
     → Good t (eqb s 0) (leb (length c) ((n - 1) * s)) (first n (λ i. outside (at c (i * s)) lo hi)) → Passable c s n k
 passable c s n lo hi e l h g =
     let nonzero = eqb-false s 0 (g .stride) in
@@ -102,15 +102,15 @@ plain kind n c s {d} {lo} {hi} {r} f g m =
 
 -- ---- the definitions, with the length as the code has it
 
-pub ranged-is : (kind : Kind) (n : ℕ) (c : List ℤ) (s : ℕ) (lo hi : ℤ) → len (sided n) ≡ n
-    → ranged kind (sided n) c s lo hi ≡ defined (bad-range lo hi) (eqb s 0) (leb (length c) ((n - 1) * s)) (first n (λ i. outside (at c (i * s)) lo hi)) c (accepted kind (sided n) (natAbs lo) s c)
+pub ranged-is : (kind : Kind) (n : ℕ) (c : List ℤ) (s : ℕ) (lo hi : ℤ) → len (side n) ≡ n
+    → ranged kind (side n) c s lo hi ≡ defined (bad-range lo hi) (eqb s 0) (leb (length c) ((n - 1) * s)) (first n (λ i. outside (at c (i * s)) lo hi)) c (accepted kind (side n) (natAbs lo) s c)
 unfolding ranged
-ranged-is kind n c s lo hi e = λ i. defined (bad-range lo hi) (eqb s 0) (leb (length c) ((e i - 1) * s)) (first (e i) (λ j. outside (at c (j * s)) lo hi)) c (accepted kind (sided n) (natAbs lo) s c)
+ranged-is kind n c s lo hi e = λ i. defined (bad-range lo hi) (eqb s 0) (leb (length c) ((e i - 1) * s)) (first (e i) (λ j. outside (at c (j * s)) lo hi)) c (accepted kind (side n) (natAbs lo) s c)
 
-pub done : {kind : Kind} {n s m : ℕ} {c d : List ℤ} {r : Bool} → len (sided n) ≡ n → PassIs kind n s m c d r → Meets (accepted kind (sided n) m s c) (Done r) d
+pub done : {kind : Kind} {n s m : ℕ} {c d : List ℤ} {r : Bool} → len (side n) ≡ n → PassIs kind n s m c d r → Meets (accepted kind (side n) m s c) (Done r) d
 done {kind} {n} {s} {m} {c} e p = record {
-  answer = ap acceptance (p .mark) ∙ (λ i. acceptance (pass kind (sided n) m (taken c s (sym e i)) .mark));
-  elements = p .elements ∙ (λ i. put c s (pass kind (sided n) m (taken c s (sym e i)) .values) (sym e i));
+  answer = ap acceptance (p .mark) ∙ (λ i. acceptance (pass kind (side n) m (taken c s (sym e i)) .mark));
+  elements = p .elements ∙ (λ i. put c s (pass kind (side n) m (taken c s (sym e i)) .values) (sym e i));
 }
 
 -- a WHT looks at no range

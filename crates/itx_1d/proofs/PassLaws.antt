@@ -13,7 +13,7 @@ use Rattle.whole.proofs.Counts.{tab-ext, tab-length, replicate-tab, map-at, map
 use Rattle.whole.proofs.Floors.{floor-one}
 use Rattle.whole.proofs.Machine.{Within, E, var, lit, _⊕_, _⊝_, _⊛_, _≫_, bound}
 use Rattle.whole.proofs.Parts.{rep-self, rep-add, rep-mul}
-use Rattle.whole.proofs.Ranges.{zero-inside, inside-abs, scaled, round-floor, scaled-inside, by-181}
+use Rattle.whole.proofs.Ranges.{zero-inside, range-abs, scaled, round-floor, scaled-inside, by-181}
 use Rattle.av1.specs.Sides.{Side, of4, of8, of16, of32, len, bits}
 use Rattle.av1.specs.Network.{Alg, Step, B, H, step, run, brev, steps, permuted, dct}
 use Rattle.av1.specs.Values.{Marked, unmarked, values, marks, marked, clipped, stored-only, all-along}
@@ -229,7 +229,7 @@ module _ (n : Side) (m : ℕ) (xs : List ℤ) where
   -- what a pass leaves of numbers up to k, with a range up to k
   pub pass-small : (kind : Kind) (k : ℕ) → m ≤ k → ((i : ℕ) → natAbs (at xs i) ≤ k) → (i : ℕ) → natAbs (at (pass kind n m xs .values) i) ≤ 5 * k + 2
   unfolding pass
-  pass-small Dct k l h i = le-trans (inside-abs m _ (dct-in-range i)) (omega arith)
+  pass-small Dct k l h i = le-trans (range-abs m _ (dct-in-range i)) (omega arith)
   pass-small Identity k l h i = subst⁻¹ (λ (z : ℤ). natAbs z ≤ 5 * k + 2) (identity-at n xs i) (identity-small n (at xs i) k (h i))
   pass-small Wht k l h i = wht-small (at xs 0) (at xs 1) (at xs 2) (at xs 3) k (h 0, (h 1, (h 2, (h 3, tt)))) i
 

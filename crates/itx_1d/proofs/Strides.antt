@@ -14,15 +14,15 @@ use borrow.Author.Tests.{leb-false}
 use mir.Facts.{and-yes}
 use Rattle.whole.specs.Lists.{at, tab}
 use Rattle.whole.proofs.Counts.{last-or-less}
-use Rattle.av1.specs.Sides.{Side, of4, of8, of16, of32, len}
+use Rattle.av1.specs.Sides.{Side, of4, of8, of16, of32, len, side}
 use Rattle.itx_1d.specs.Calls.{put}
-use Rattle.itx_1d.specs.Inner.{sided, revs, source, sources-below}
+use Rattle.itx_1d.specs.Inner.{revs, source, sources-below}
 
 -- ---- the lengths
 
 -- what holds of the four lengths holds of n
-pub of-length : (P : ℕ → Type 0) → ((k : Side) → P (len k)) → (n : ℕ) → len (sided n) ≡ n → P n
-of-length P p n e = subst P e (p (sided n))
+pub of-length : (P : ℕ → Type 0) → ((k : Side) → P (len k)) → (n : ℕ) → len (side n) ≡ n → P n
+of-length P p n e = subst P e (p (side n))
 
 below-32 : (k : Side) → T (leb (len k) 32)
 below-32 of4 = tt
@@ -30,7 +30,7 @@ below-32 of8 = tt
 below-32 of16 = tt
 below-32 of32 = tt
 
-pub at-most-32 : (n : ℕ) → len (sided n) ≡ n → n ≤ 32
+pub at-most-32 : (n : ℕ) → len (side n) ≡ n → n ≤ 32
 at-most-32 n e = leb→le n 32 (of-length (λ k. T (leb k 32)) below-32 n e)
 
 some-length : (k : Side) → T (ltb 0 (len k))
@@ -39,7 +39,7 @@ some-length of8 = tt
 some-length of16 = tt
 some-length of32 = tt
 
-pub not-0 : (n : ℕ) → len (sided n) ≡ n → 0 < n
+pub not-0 : (n : ℕ) → len (side n) ≡ n → 0 < n
 not-0 n e = ltb→lt 0 n (of-length (λ k. T (ltb 0 k)) some-length n e)
 
 all-below : (k : Side) → T (sources-below (len k) (len k))
@@ -68,7 +68,7 @@ source-of n (suc k) t i h =
     let r = and-yes (ltb (k * (32 / n)) 32) (ltb (source n k) n) (q .0) in
     last-or-less i k (Source n) h (record { in-table = ltb→lt _ 32 (r .0); below = ltb→lt _ n (r .1) }) (source-of n k (q .1) i)
 
-pub source-at : (n : ℕ) → len (sided n) ≡ n → (i : ℕ) → i < n → Source n i
+pub source-at : (n : ℕ) → len (side n) ≡ n → (i : ℕ) → i < n → Source n i
 source-at n e i h = source-of n n (of-length (λ k. T (sources-below k k)) all-below n e) i h
 
 -- one element more in front of the zeros

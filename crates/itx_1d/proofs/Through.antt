@@ -13,7 +13,7 @@ use mir.Val.{SFits, toZ, ofZ}
 use mir.ValLaws.{toZ-ofZ}
 use Rattle.whole.specs.Numbers.{low, high}
 use Rattle.whole.specs.Lists.{at, tab}
-use Rattle.av1.specs.Sides.{Side, of4, of8, of16, of32, len, bits}
+use Rattle.av1.specs.Sides.{Side, of4, of8, of16, of32, len, bits, side}
 use Rattle.av1.specs.Network.{permuted, run, steps}
 use Rattle.av1.specs.Values.{clipped, Marked, unmarked, marked, values, marks, stored-only}
 use Rattle.av1.proofs.Related.{Both, none, one}
@@ -25,7 +25,7 @@ use Rattle.dct.proofs.Walk.{read-back}
 use Rattle.itx_1d.specs.declared.Kind.the-variants.{Dct}
 use Rattle.itx_1d.specs.Passes.{Passed, pass}
 use Rattle.itx_1d.specs.Calls.{taken, put}
-use Rattle.itx_1d.specs.Inner.{sided, source, gathered, Passable, Ranged, PassIs}
+use Rattle.itx_1d.specs.Inner.{source, gathered, Passable, Ranged, PassIs}
 use Rattle.itx_1d.proofs.Strides.{source-at, at-most-32}
 
 -- ---- the work array is small
@@ -101,10 +101,10 @@ through-held {n} {lo} {hi} {t} f g h = record {
 }
 
 -- the whole of a DCT pass
-pub dct-is : {lo hi : ℤ} {t u : List ℤ} {r : Bool} (c : List ℤ) (s n : ℕ) → Ranged lo hi → len (sided n) ≡ n → t ≡ gathered c s n → Through (bits (sided n) - 1) lo hi t u r
+pub dct-is : {lo hi : ℤ} {t u : List ℤ} {r : Bool} (c : List ℤ) (s n : ℕ) → Ranged lo hi → len (side n) ≡ n → t ≡ gathered c s n → Through (bits (side n) - 1) lo hi t u r
     → PassIs Dct n s (natAbs lo) c (put c s u n) r
 dct-is {lo} {hi} {t} {u} {r} c s n g e q h =
-    let k = sided n in
+    let k = side n in
     let m = natAbs lo in
     let from = q ∙ ap (gathered c s) (sym e) in
     let whole : Through (bits k - 1) (low m) (high m) (gathered c s (len k)) u r =
@@ -118,8 +118,8 @@ dct-is {lo} {hi} {t} {u} {r} c s n g e q h =
     }
 
 -- of length n, where k is n's side
-pub through-as : {lo hi : ℤ} {t u : List ℤ} {r : Bool} (n : ℕ) (k : Side) → sided n ≡ k → SFits w32 lo → SFits w32 hi → Through (bits k - 1) (toZ w32 (ofZ w32 lo)) (toZ w32 (ofZ w32 hi)) t u r → Through (bits (sided n) - 1) lo hi t u r
+pub through-as : {lo hi : ℤ} {t u : List ℤ} {r : Bool} (n : ℕ) (k : Side) → side n ≡ k → SFits w32 lo → SFits w32 hi → Through (bits k - 1) (toZ w32 (ofZ w32 lo)) (toZ w32 (ofZ w32 hi)) t u r → Through (bits (side n) - 1) lo hi t u r
 through-as {lo} {hi} {t} {u} {r} n k e f g h = subst⁻¹ (λ (j : Side). Through (bits j - 1) lo hi t u r) e (through-held f g h)
 
-pub sided-32 : (n : ℕ) → (n ≡ 4 → ⊥) → (n ≡ 8 → ⊥) → (n ≡ 16 → ⊥) → sided n ≡ of32
+pub sided-32 : (n : ℕ) → (n ≡ 4 → ⊥) → (n ≡ 8 → ⊥) → (n ≡ 16 → ⊥) → side n ≡ of32
 sided-32 n p q r = λ i. cond (ne-eqb n 4 p i) of4 (cond (ne-eqb n 8 q i) of8 (cond (ne-eqb n 16 r i) of16 of32))

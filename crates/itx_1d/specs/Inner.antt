@@ -9,7 +9,7 @@ use lib.IntN.{ℤ, pos, natAbs}
 use lib.ListN.{getD, length, replicate}
 use Rattle.whole.specs.Numbers.{outside, low, high}
 use Rattle.whole.specs.Lists.{at, tab, first}
-use Rattle.av1.specs.Sides.{Side, of4, of8, of16, of32, len, bits}
+use Rattle.av1.specs.Sides.{Side, of4, of8, of16, of32, len, bits, side}
 use Rattle.dct.specs.Stages.{Through}
 use Rattle.itx_1d.specs.Passes.{Passed, identity, pass}
 use Rattle.itx_1d.specs.Calls.{taken, put}
@@ -19,10 +19,6 @@ use Rattle.itx_1d.specs.declared.Found.{Found}
 use Rattle.itx_1d.specs.declared.Found.the-variants.{At, Nothing}
 use Rattle.itx_1d.specs.declared.Pass.{Pass}
 use Rattle.itx_1d.specs.declared.Pass.the-variants.{Done, Range, Stride, Short, Element}
-
--- the length n as a side, where it is one
-abbrev pub sided : ℕ → Side
-sided n = cond (eqb n 4) of4 (cond (eqb n 8) of8 (cond (eqb n 16) of16 of32))
 
 -- the code's table: 5 bits in reverse order. Of 2 ^ n elements, element i stands at entry i * 2 ^ (5 - n).
 abbrev pub revs : List ℕ
@@ -42,7 +38,7 @@ gathered c s n = tab n (λ i. at c (source n i * s)) ++ replicate (32 - n) (pos 
 
 -- the n elements lie in the list
 pub record Reaches (c : List ℤ) (s n : ℕ) : Type 0 where
-  pub is-length : len (sided n) ≡ n
+  pub is-length : len (side n) ≡ n
   pub some-stride : 0 < s
   pub inside : (j : ℕ) → j < n → j * s < length c
 
@@ -58,12 +54,12 @@ pub record Ranged (lo hi : ℤ) : Type 0 where
 
 -- what a pass with the range -m .. m - 1 makes of the list c
 pub record PassIs (kind : Kind) (n s m : ℕ) (c d : List ℤ) (r : Bool) : Type 0 where
-  pub elements : d ≡ put c s (pass kind (sided n) m (taken c s n) .values) n
-  pub mark : r ≡ pass kind (sided n) m (taken c s n) .mark
+  pub elements : d ≡ put c s (pass kind (side n) m (taken c s n) .values) n
+  pub mark : r ≡ pass kind (side n) m (taken c s n) .mark
 
 -- the identity of n points on the list
 abbrev pub identical : List ℤ → ℕ → ℕ → List ℤ
-identical c s n = put c s (map (identity (sided n)) (taken c s n)) n
+identical c s n = put c s (map (identity (side n)) (taken c s n)) n
 
 -- "goes on only if that was an acceptance"
 abbrev pub after : Pass → Pass → Pass
@@ -124,4 +120,4 @@ takes-range Wht = false
 
 pub record Callable (kind : Kind) (n : ℕ) : Type 0 where
   pub range : T (takes-range kind)
-  pub is-length : len (sided n) ≡ n
+  pub is-length : len (side n) ≡ n

@@ -8,7 +8,7 @@ ghost use lib.IntN.{ℤ, natAbs};
 ghost use lib.ListN.{length};
 ghost use Rattle.whole.specs.Numbers as Numbers;
 ghost use Rattle.whole.specs.Lists.{at, first};
-ghost use Rattle.av1.specs.Sides.{of4, of8, of16, of32, len, bits};
+ghost use Rattle.av1.specs.Sides.{of4, of8, of16, of32, len, bits, side};
 ghost use Rattle.dct.specs.Stages as Stages;
 ghost use Rattle.itx_1d.specs.Passes as Passes;
 ghost use Rattle.itx_1d.specs.Calls as Calls;
@@ -104,7 +104,7 @@ fn scatter(c: &mut [i32], stride: usize, n: usize, t: [i32; 32])
 // The DCT of n points on the work array.
 fn dct_of(t: &mut [i32; 32], n: usize, min: i32, max: i32) -> bool
     requires { ⌜ Stages.Ready (now t) min max ⌝ }
-    ensures { λ r. ⌜ Stages.Through (bits (Inner.sided n) - 1) min max (now (t .entry)) (now (t .exit)) r ⌝ }
+    ensures { λ r. ⌜ Stages.Through (bits (side n) - 1) min max (now (t .entry)) (now (t .exit)) r ⌝ }
 {
     match n {
         4 => dct4(t, min, max),
@@ -127,7 +127,7 @@ fn dct(c: &mut [i32], n: usize, stride: usize, min: i32, max: i32) -> bool
 // One element of the identity of n points.
 fn identity_of(n: usize, v: i32) -> i32
     requires { ⌜ natAbs v ≤ 524288 ⌝ }
-    ensures { λ r. ⌜ r ≡ Passes.identity (Inner.sided n) v ⌝ }
+    ensures { λ r. ⌜ r ≡ Passes.identity (side n) v ⌝ }
 {
     match n {
         4 => v + (v * 1697 + 2048 >> 12),
@@ -236,7 +236,7 @@ fn check_elements(before: Pass, c: &[i32], n: usize, stride: usize, min: i32, ma
 
 // Numbers 12 to 14, after `before`.
 fn check(before: Pass, c: &[i32], n: usize, stride: usize, min: i32, max: i32) -> Pass
-    requires { ⌜ len (Inner.sided n) ≡ n ⌝ }
+    requires { ⌜ len (side n) ≡ n ⌝ }
     ensures { λ r. ⌜ r ≡ Inner.checked before (now (c .entry)) n stride min max ⌝ }
 {
     let place = check_place(before, c.len(), n, stride);
@@ -264,7 +264,7 @@ pub fn inv_1d(kind: Kind, c: &mut [i32], n: usize, stride: usize, min: i32, max:
 // A DCT or an identity with its checks.
 fn ranged(kind: Kind, c: &mut [i32], n: usize, stride: usize, min: i32, max: i32) -> Pass
     requires { ⌜ Inner.Callable kind n ⌝ }
-    ensures { λ r. ⌜ Calls.Meets (Calls.ranged kind (Inner.sided n) (now (c .entry)) stride min max) r (now (c .exit)) ⌝ }
+    ensures { λ r. ⌜ Calls.Meets (Calls.ranged kind (side n) (now (c .entry)) stride min max) r (now (c .exit)) ⌝ }
 {
     let range = check_range(min, max);
     let checked = check(range, &*c, n, stride, min, max);

@@ -8,10 +8,10 @@ use lib.Dec.{T, eqb, eqb→eq}
 use mir.Facts.{and-yes}
 use Rattle.whole.specs.Checks.{Check, accept, refuse, then}
 use Rattle.whole.proofs.Checks.{refuse≢accept, open-then, same-accept}
-use Rattle.av1.specs.Sides.{Side, of4, of8, of16, of32, len}
+use Rattle.av1.specs.Sides.{Side, of4, of8, of16, of32, len, side}
 use Rattle.itx_1d.specs.declared.Kind.{Kind}
 use Rattle.levels.specs.declared.Plan.{Plan}
-use Rattle.levels.specs.Plans.{among, shift-0, shift-1, shift-2, shift-of, kinds-of, with-kinds, with-shift, plan, side}
+use Rattle.levels.specs.Plans.{among, shift-0, shift-1, shift-2, shift-of, kinds-of, with-kinds, with-shift, plan}
 
 -- n is the length of a pass
 abbrev pub Sided : ℕ → Type 0

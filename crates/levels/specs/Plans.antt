@@ -4,7 +4,6 @@ use mathlib.Core.List.{List, [], _∷_}
 use Prim.Native.Nat.{ℕ, _*_}
 use lib.Dec.{eqb, leb}
 use Rattle.whole.specs.Checks.{Check, accept, refuse, then}
-use Rattle.av1.specs.Sides.{Side, of4, of8, of16, of32}
 use Rattle.itx_1d.specs.declared.Kind.{Kind}
 use Rattle.itx_1d.specs.declared.Kind.the-variants.{Dct, Identity, Wht}
 use Rattle.levels.specs.declared.Decision.{Decision}
@@ -72,7 +71,3 @@ abbrev pub decision-of : Decision → Check Plan
 decision-of (Planned p) = accept p
 decision-of NoSize = refuse 1 0
 decision-of NoType = refuse 2 0
-
--- the length of a pass along a side
-abbrev pub side : ℕ → Side
-side n = cond (eqb n 4) of4 (cond (eqb n 8) of8 (cond (eqb n 16) of16 of32))

@@ -13,11 +13,11 @@ use lib.ListN.{length, take, drop, length-drop, List·getD-append, List·getD-eq
 use lib.Seq.{getD-take, getD-drop, length-take-le, getD-append-add}
 use Rattle.whole.specs.Lists.{at, tab}
 use Rattle.whole.proofs.Counts.{tab-ext}
-use Rattle.av1.specs.Sides.{len}
+use Rattle.av1.specs.Sides.{len, side}
 use Rattle.itx_1d.specs.declared.Kind.{Kind}
 use Rattle.itx_1d.specs.Passes.{Passed, pass}
 use Rattle.itx_1d.specs.Calls.{taken, put}
-use Rattle.itx_1d.specs.Inner.{sided, PassIs, Reaches, Passable}
+use Rattle.itx_1d.specs.Inner.{PassIs, Reaches, Passable}
 use Rattle.itx_1d.proofs.Strides.{length-put, kept, put-at, not-0}
 
 -- the part of t from x on
@@ -47,7 +47,7 @@ module _ (t d : List ℤ) (x : ℕ) (b : x ≤ length t) where
 abbrev pub line : ℕ → ℕ → ℕ → List ℤ → List ℤ
 line from s n u = tab n (λ j. at u (from + j * s))
 
-module _ (from s n : ℕ) (u : List ℤ) (is-length : len (sided n) ≡ n) (some : 0 < s) (reach : (j : ℕ) → j < n → from + j * s < length u) where
+module _ (from s n : ℕ) (u : List ℤ) (is-length : len (side n) ≡ n) (some : 0 < s) (reach : (j : ℕ) → j < n → from + j * s < length u) where
   line-at : (j : ℕ) → j < n → at (part u from) (j * s) ≡ at u (from + j * s)
   line-at j l = part-at u from (j * s) (reach j l)
 
@@ -70,17 +70,17 @@ module _ (from s n : ℕ) (u : List ℤ) (is-length : len (sided n) ≡ n) (some
   -- what it gives
   module _ (kind : Kind) (m : ℕ) (d : List ℤ) (r : Bool) (done : PassIs kind n s m (part u from) d r) where
     abbrev values : List ℤ
-    values = pass kind (sided n) m (taken (part u from) s n) .values
+    values = pass kind (side n) m (taken (part u from) s n) .values
 
     d-length : length d ≡ length u - from
     d-length = ap length (done .elements) ∙ length-put (part u from) s values n ∙ part-length u from
 
-    pub line-own : (j : ℕ) → j < n → at (back u from d) (from + j * s) ≡ at (pass kind (sided n) m (line from s n u) .values) j
+    pub line-own : (j : ℕ) → j < n → at (back u from d) (from + j * s) ≡ at (pass kind (side n) m (line from s n u) .values) j
     line-own j l =
         back-from u d from from-inside (j * s) (omega (arith, d-length, reach j l))
         ∙ ap (λ (xs : List ℤ). at xs (j * s)) (done .elements)
         ∙ put-at (part u from) s values some n j l line-inside
-        ∙ ap (λ (xs : List ℤ). at (pass kind (sided n) m xs .values) j) taken-is
+        ∙ ap (λ (xs : List ℤ). at (pass kind (side n) m xs .values) j) taken-is
 
     pub line-length : length (back u from d) ≡ length u
     line-length = same-len-mid from (length u - from) u d (ap length (done .elements) ∙ length-put (part u from) s values n)
@@ -104,5 +104,5 @@ module _ (from s n : ℕ) (u : List ℤ) (is-length : len (sided n) ≡ n) (some
             ∙ part-at u from (i - from) (omega arith)
             ∙ ap (at u) (sym p)
 
-    pub line-mark : r ≡ pass kind (sided n) m (line from s n u) .mark
-    line-mark = done .mark ∙ ap (λ (xs : List ℤ). pass kind (sided n) m xs .mark) taken-is
+    pub line-mark : r ≡ pass kind (side n) m (line from s n u) .mark
+    line-mark = done .mark ∙ ap (λ (xs : List ℤ). pass kind (side n) m xs .mark) taken-is

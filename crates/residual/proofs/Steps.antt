@@ -10,10 +10,10 @@ use lib.IntN.{ℤ, pos, natAbs}
 use lib.ListN.{length}
 use Rattle.whole.specs.Lists.{at, tab}
 use Rattle.whole.proofs.Counts.{tab-ext, last-or-less}
-use Rattle.av1.specs.Sides.{len}
+use Rattle.av1.specs.Sides.{len, side}
 use Rattle.itx_1d.specs.declared.Kind.{Kind}
 use Rattle.itx_1d.specs.Passes.{pass}
-use Rattle.itx_1d.specs.Inner.{sided, PassIs, Passable}
+use Rattle.itx_1d.specs.Inner.{PassIs, Passable}
 use Rattle.residual.specs.Inner.{fill, Holds, column-made, Columned}
 use Rattle.residual.proofs.Fills.{fill-length, fill-before, fill-after, fill-own}
 use Rattle.residual.proofs.Lines.{part, back, line, passable, line-own, line-kept, line-length, line-mark}
@@ -21,7 +21,7 @@ use Rattle.residual.proofs.Places.{by-row, same-column}
 
 -- ---- rows: t holds y rows, and u has row y loaded with e besides
 
-module _ (w y : ℕ) (g : ℕ → ℕ → ℤ) (e : ℕ → ℤ) (t u : List ℤ) (is-length : len (sided w) ≡ w) (room : suc y * w ≤ 1024) (so-far : Holds w y g t) (loaded : u ≡ fill t (y * w) e w) where
+module _ (w y : ℕ) (g : ℕ → ℕ → ℤ) (e : ℕ → ℤ) (t u : List ℤ) (is-length : len (side w) ≡ w) (room : suc y * w ≤ 1024) (so-far : Holds w y g t) (loaded : u ≡ fill t (y * w) e w) where
   u-long : length u ≡ 1024
   u-long = ap length loaded ∙ fill-length t (y * w) e w ∙ so-far .long
 
@@ -37,7 +37,7 @@ module _ (w y : ℕ) (g : ℕ → ℕ → ℤ) (e : ℕ → ℤ) (t u : List ℤ
   line-is : line (y * w) 1 w u ≡ tab w e
   line-is = tab-ext w (λ j. at u (y * w + j * 1)) e own
 
-  module _ (kind : Kind) (m : ℕ) (d : List ℤ) (r : Bool) (done : PassIs kind w 1 m (part u (y * w)) d r) (made : (x : ℕ) → g y x ≡ at (pass kind (sided w) m (tab w e) .values) x) where
+  module _ (kind : Kind) (m : ℕ) (d : List ℤ) (r : Bool) (done : PassIs kind w 1 m (part u (y * w)) d r) (made : (x : ℕ) → g y x ≡ at (pass kind (side w) m (tab w e) .values) x) where
     outside-row : (i : ℕ) → ((j : ℕ) → j < w → i ≢ y * w + j * 1) → at (back u (y * w) d) i ≡ at u i
     outside-row i f = line-kept (y * w) 1 w u is-length (omega arith) reach kind m d r done i f
 
@@ -45,7 +45,7 @@ module _ (w y : ℕ) (g : ℕ → ℕ → ℤ) (e : ℕ → ℤ) (t u : List ℤ
     this-row x l =
         ap (at (back u (y * w) d)) (omega arith)
         ∙ line-own (y * w) 1 w u is-length (omega arith) reach kind m d r done x l
-        ∙ ap (λ (s : List ℤ). at (pass kind (sided w) m s .values) x) line-is
+        ∙ ap (λ (s : List ℤ). at (pass kind (side w) m s .values) x) line-is
         ∙ sym (made x)
 
     before-row : (i : ℕ) → i < y * w → at (back u (y * w) d) i ≡ at t i
@@ -62,12 +62,12 @@ module _ (w y : ℕ) (g : ℕ → ℕ → ℤ) (e : ℕ → ℤ) (t u : List ℤ
       long = line-length (y * w) 1 w u is-length (omega arith) reach kind m d r done ∙ u-long;
     }
 
-    pub row-mark : r ≡ pass kind (sided w) m (tab w e) .mark
-    row-mark = line-mark (y * w) 1 w u is-length (omega arith) reach kind m d r done ∙ ap (λ (s : List ℤ). pass kind (sided w) m s .mark) line-is
+    pub row-mark : r ≡ pass kind (side w) m (tab w e) .mark
+    row-mark = line-mark (y * w) 1 w u is-length (omega arith) reach kind m d r done ∙ ap (λ (s : List ℤ). pass kind (side w) m s .mark) line-is
 
 -- ---- columns: u has its first x columns passed
 
-module _ (kind : Kind) (m w h x : ℕ) (t u : List ℤ) (is-length : len (sided h) ≡ h) (x<w : x < w) (room : h * w ≤ 1024) (so-far : Columned kind m w h t x u) where
+module _ (kind : Kind) (m w h x : ℕ) (t u : List ℤ) (is-length : len (side h) ≡ h) (x<w : x < w) (room : h * w ≤ 1024) (so-far : Columned kind m w h t x u) where
   column-reach : (j : ℕ) → j < h → x + j * w < length u
   column-reach j l = omega (arith, so-far .long, by-row w h j x l x<w, room)
 
@@ -88,7 +88,7 @@ module _ (kind : Kind) (m w h x : ℕ) (t u : List ℤ) (is-length : len (sided 
     this-column y l =
         ap (at (back u x d)) (omega arith)
         ∙ line-own x w h u is-length (omega arith) column-reach kind m d r done y l
-        ∙ ap (λ (s : List ℤ). at (pass kind (sided h) m s .values) y) column-is
+        ∙ ap (λ (s : List ℤ). at (pass kind (side h) m s .values) y) column-is
 
     pub column-more : Columned kind m w h t (x + 1) (back u x d)
     column-more = record {
@@ -99,4 +99,4 @@ module _ (kind : Kind) (m w h x : ℕ) (t u : List ℤ) (is-length : len (sided 
     }
 
     pub column-mark : r ≡ column-made kind m w h t x .mark
-    column-mark = line-mark x w h u is-length (omega arith) column-reach kind m d r done ∙ ap (λ (s : List ℤ). pass kind (sided h) m s .mark) column-is
+    column-mark = line-mark x w h u is-length (omega arith) column-reach kind m d r done ∙ ap (λ (s : List ℤ). pass kind (side h) m s .mark) column-is

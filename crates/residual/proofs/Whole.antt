@@ -13,10 +13,11 @@ use Rattle.whole.specs.Numbers.{round2, clip, low, high}
 use Rattle.whole.specs.Lists.{at, tab, any}
 use Rattle.whole.proofs.Clips.{clip-abs}
 use Rattle.whole.proofs.Counts.{tab-ext, any-ext}
+use Rattle.av1.specs.Sides.{side}
 use Rattle.itx_1d.specs.declared.Kind.{Kind}
 use Rattle.itx_1d.specs.declared.Kind.the-variants.{Dct, Identity, Wht}
 use Rattle.itx_1d.specs.Passes.{Passed, pass}
-use Rattle.itx_1d.specs.Inner.{sided, most}
+use Rattle.itx_1d.specs.Inner.{most}
 use Rattle.itx_1d.proofs.PassLaws.{pass-small}
 use Rattle.itx_1d.proofs.Strides.{not-0}
 use Rattle.bitdepth.specs.declared.Depth.{Depth}
@@ -75,7 +76,7 @@ module _ (p : Plan) (d : Depth) (c : List ℤ) (r : ℕ) (t₁ t₂ t₃ : List 
     loaded-small y x l g = entering-small (p .rows) (p .w) (p .h) _ (coefs .small (y + x * p .h) (by-column (p .w) (p .h) y x (omega arith) g))
 
     row-small : (y x : ℕ) → y < r → natAbs (at (row-made p (row-range d) c y .values) x) ≤ 2621442
-    row-small y x l = pass-small (sided (p .w)) (row-range d) (tab (p .w) (loaded p c y)) (p .rows) 524288 (row-range-small d) (at-tab (λ z. natAbs z ≤ 524288) (p .w) (loaded p c y) (lit≤ tt) (λ i g. loaded-small y i l g)) x
+    row-small y x l = pass-small (side (p .w)) (row-range d) (tab (p .w) (loaded p c y)) (p .rows) 524288 (row-range-small d) (at-tab (λ z. natAbs z ≤ 524288) (p .w) (loaded p c y) (lit≤ tt) (λ i g. loaded-small y i l g)) x
 
     pub rowed-small : (i : ℕ) → natAbs (at t₁ i) ≤ 2621442
     rowed-small = at-holds (λ z. natAbs z ≤ 2621442) (p .w) r _ t₁ (not-0 (p .w) (sized .width)) (rowed .elements) (lit≤ tt) (λ y x l g. row-small y x l)
@@ -123,12 +124,12 @@ module _ (p : Plan) (d : Depth) (c : List ℤ) (r : ℕ) (t₁ t₂ t₃ : List 
 
     module _ (columned : ColumnsAre (p .columns) (column-range d) (p .w) (p .h) t₂ (p .w) t₃ m₂) where
       column-is : (x : ℕ) → x < p .w → column-made (p .columns) (column-range d) (p .w) (p .h) t₂ x ≡ column (way p d) c r x
-      column-is x g = ap (pass (p .columns) (sided (p .h)) (column-range d)) (tab-ext (p .h) _ _ (λ y l. middle-is y x g))
+      column-is x g = ap (pass (p .columns) (side (p .h)) (column-range d)) (tab-ext (p .h) _ _ (λ y l. middle-is y x g))
 
       column-small : (y x : ℕ) → y < p .h → x < p .w → natAbs (at t₃ (y * p .w + x)) ≤ 16777216
       column-small y x l g =
           subst⁻¹ (λ (z : ℤ). natAbs z ≤ 16777216) (columned .elements .passed y x l g)
-          (le-trans (pass-small (sided (p .h)) (column-range d) (tab (p .h) (λ v. at t₂ (v * p .w + x))) (p .columns) 2621442 (le-trans (column-range-small d) (lit≤ tt))
+          (le-trans (pass-small (side (p .h)) (column-range d) (tab (p .h) (λ v. at t₂ (v * p .w + x))) (p .columns) 2621442 (le-trans (column-range-small d) (lit≤ tt))
           (at-tab (λ z. natAbs z ≤ 2621442) (p .h) (λ v. at t₂ (v * p .w + x)) (lit≤ tt) (λ v k. block-small (v * p .w + x) .0)) y) (lit≤ tt))
 
       pub resolved : Resolved p d c r t₃ (m₁ || m₂)

@@ -7,11 +7,11 @@ use lib.IntN.{ℤ, pos, natAbs}
 use lib.ListN.{length, set}
 use Rattle.whole.specs.Numbers.{_>>_, round2, clip}
 use Rattle.whole.specs.Lists.{at, tab, any}
-use Rattle.av1.specs.Sides.{len}
+use Rattle.av1.specs.Sides.{len, side}
 use Rattle.itx_1d.specs.declared.Kind.{Kind}
 use Rattle.itx_1d.specs.declared.Kind.the-variants.{Wht}
 use Rattle.itx_1d.specs.Passes.{Passed, pass}
-use Rattle.itx_1d.specs.Inner.{sided, most, Lined, Limited}
+use Rattle.itx_1d.specs.Inner.{most, Lined, Limited}
 use Rattle.bitdepth.specs.declared.Depth.{Depth}
 use Rattle.levels.specs.declared.Plan.{Plan}
 use Rattle.residual.specs.Blocks.{column, marked, if-wht, prescale, way}
@@ -32,8 +32,8 @@ pub record Holds (w k : ℕ) (f : ℕ → ℕ → ℤ) (t : List ℤ) : Type 0 w
 
 -- a plan of one of the fourteen sizes
 pub record Sized (p : Plan) : Type 0 where
-  pub width : len (sided (p .w)) ≡ p .w
-  pub height : len (sided (p .h)) ≡ p .h
+  pub width : len (side (p .w)) ≡ p .w
+  pub height : len (side (p .h)) ≡ p .h
   pub shift-small : p .shift ≤ 2
   pub row-length : Lined (p .rows) (p .w)
   pub column-length : Lined (p .columns) (p .h)
@@ -72,7 +72,7 @@ abbrev pub loaded : Plan → List ℤ → ℕ → ℕ → ℤ
 loaded p c y x = entering (p .rows) (p .w) (p .h) (at c (y + x * p .h))
 
 abbrev pub row-made : Plan → ℕ → List ℤ → ℕ → Passed
-row-made p m c y = pass (p .rows) (sided (p .w)) m (tab (p .w) (loaded p c y))
+row-made p m c y = pass (p .rows) (side (p .w)) m (tab (p .w) (loaded p c y))
 
 pub record RowsAre (p : Plan) (m : ℕ) (c : List ℤ) (k : ℕ) (t : List ℤ) (mark : Bool) : Type 0 where
   pub elements : Holds (p .w) k (λ y x. at (row-made p m c y .values) x) t
@@ -80,7 +80,7 @@ pub record RowsAre (p : Plan) (m : ℕ) (c : List ℤ) (k : ℕ) (t : List ℤ) 
 
 -- step 5: what a pass makes of column x of the block, what the passes ask, and what they leave after k columns
 abbrev pub column-made : Kind → ℕ → ℕ → ℕ → List ℤ → ℕ → Passed
-column-made kind m w h t x = pass kind (sided h) m (tab h (λ y. at t (y * w + x)))
+column-made kind m w h t x = pass kind (side h) m (tab h (λ y. at t (y * w + x)))
 
 pub record Columned (kind : Kind) (m w h : ℕ) (t : List ℤ) (k : ℕ) (u : List ℤ) : Type 0 where
   pub passed : (y x : ℕ) → y < h → x < k → at u (y * w + x) ≡ at (column-made kind m w h t x .values) y
@@ -88,7 +88,7 @@ pub record Columned (kind : Kind) (m w h : ℕ) (t : List ℤ) (k : ℕ) (u : Li
   pub long : length u ≡ 1024
 
 pub record ColumnsPass (kind : Kind) (w h : ℕ) (lo hi : ℤ) (t : List ℤ) : Type 0 where
-  pub is-length : len (sided h) ≡ h
+  pub is-length : len (side h) ≡ h
   pub room : h * w ≤ 1024
   pub lined : Lined kind h
   pub limited : Limited kind lo hi

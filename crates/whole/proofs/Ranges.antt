@@ -28,9 +28,9 @@ module _ (lo hi v : ℤ) where
 pub zero-inside : (m : ℕ) → outside (pos 0) (low m) (high m) ≡ false
 zero-inside m = not-outside (low m) (high m) (pos 0) (record { above = omega arith; below = omega arith })
 
-pub inside-abs : (m : ℕ) (v : ℤ) → outside v (low m) (high m) ≡ false → natAbs v ≤ suc (m - 1)
-inside-abs m (pos n) e = let k = inside (low m) (high m) (pos n) e in omega arith
-inside-abs m (negsuc n) e = let k = inside (low m) (high m) (negsuc n) e in omega arith
+pub range-abs : (m : ℕ) (v : ℤ) → outside v (low m) (high m) ≡ false → natAbs v ≤ suc (m - 1)
+range-abs m (pos n) e = let k = inside (low m) (high m) (pos n) e in omega arith
+range-abs m (negsuc n) e = let k = inside (low m) (high m) (negsuc n) e in omega arith
 
 -- ---- rounded shifts
 

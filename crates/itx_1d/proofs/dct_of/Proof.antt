@@ -1,8 +1,7 @@
 -- `itx_1d::dct_of` meets its contract.
 use mathlib.Core.Path.{ap}
 use borrow.Author.Needs.{needs}
-use Rattle.av1.specs.Sides.{of4, of8, of16, of32}
-use Rattle.itx_1d.specs.Inner.{sided}
+use Rattle.av1.specs.Sides.{of4, of8, of16, of32, side}
 use Rattle.itx_1d.proofs.Through.{through-as, sided-32}
 use Rattle.itx_1d.proofs.dct_of.Statement.{statement}
 use Rattle.itx_1d.proofs.dct_of.Tie as tie
@@ -15,9 +14,9 @@ dct-of-spec =
     (λ c κs. search needs)
     (λ c κs. search needs)
     (λ c κs. search needs)
-    (λ c. let m = c .before .before in let s = m .before in through-as (s .args .n) of4 (ap sided (m .match .keys1)) (s .fits .min) (s .fits .max) (c .dct4 .ensures))
-    (λ c. let m = c .before .before in let s = m .before in through-as (s .args .n) of8 (ap sided (m .match .keys2)) (s .fits .min) (s .fits .max) (c .dct8 .ensures))
-    (λ c. let m = c .before .before in let s = m .before in through-as (s .args .n) of16 (ap sided (m .match .keys3)) (s .fits .min) (s .fits .max) (c .dct16 .ensures))
+    (λ c. let m = c .before .before in let s = m .before in through-as (s .args .n) of4 (ap side (m .match .keys1)) (s .fits .min) (s .fits .max) (c .dct4 .ensures))
+    (λ c. let m = c .before .before in let s = m .before in through-as (s .args .n) of8 (ap side (m .match .keys2)) (s .fits .min) (s .fits .max) (c .dct8 .ensures))
+    (λ c. let m = c .before .before in let s = m .before in through-as (s .args .n) of16 (ap side (m .match .keys3)) (s .fits .min) (s .fits .max) (c .dct16 .ensures))
     (λ c.
     let m = c .before .before in
     let s = m .before in

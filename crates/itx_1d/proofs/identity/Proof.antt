@@ -11,16 +11,16 @@ use mir.Val.{toZ, ofZ}
 use mir.ValLaws.{toZ-ofZ}
 use Rattle.whole.specs.Lists.{at}
 use Rattle.whole.proofs.Counts.{tab-at}
+use Rattle.av1.specs.Sides.{side}
 use Rattle.itx_1d.specs.Passes as Passes
 use Rattle.itx_1d.specs.Calls.{taken, put}
-use Rattle.itx_1d.specs.Inner.{sided}
 use Rattle.itx_1d.proofs.PassLaws.{identity-at}
 use Rattle.itx_1d.proofs.Strides.{length-put, waits}
 use Rattle.itx_1d.proofs.identity.Statement.{statement}
 use Rattle.itx_1d.proofs.identity.Tie as tie
 
 abbrev done : List ℤ → ℕ → ℕ → List ℤ
-done c s n = map (Passes.identity (sided n)) (taken c s n)
+done c s n = map (Passes.identity (side n)) (taken c s n)
 
 abbrev Inv-loop : tie.InvT-loop
 Inv-loop c₀ n stride i₀ c i = (c ≡ put c₀ stride (done c₀ stride n) i) × (i ≤ n)
@@ -61,9 +61,9 @@ loop-again c =
     let e = c .before .before in
     let h = e .before .loop in
     let s = e .before .before in
-    let f = Passes.identity (sided (s .args .n)) in
+    let f = Passes.identity (side (s .args .n)) in
     let w = toZ-ofZ w32 (c .identity-of .result) (record { sfits = c .identity-of .ok }) ∙ c .identity-of .ensures ∙ ap f (held (c .before) ∙ same e)
-    ∙ sym (identity-at (sided (s .args .n)) (taken (s .args .c .now) (s .args .stride) (s .args .n)) (h .i) ∙ ap f (tab-at (s .args .n) (λ j. at (s .args .c .now) (j * s .args .stride)) (pos 0) (h .i) (e .loop-test .taken))) in
+    ∙ sym (identity-at (side (s .args .n)) (taken (s .args .c .now) (s .args .stride) (s .args .n)) (h .i) ∙ ap f (tab-at (s .args .n) (λ j. at (s .args .c .now) (j * s .args .stride)) (pos 0) (h .i) (e .loop-test .taken))) in
     ((λ k. set (h .inv .0 k) (h .i * s .args .stride) (w k)) ∙ ap (put (s .args .c .now) (s .args .stride) (done (s .args .c .now) (s .args .stride) (s .args .n))) (sym (add-one (h .i))), omega arith)
 
 returns : tie.Need-returns Inv-loop μ-loop

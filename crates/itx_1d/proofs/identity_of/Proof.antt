@@ -8,9 +8,8 @@ use mir.Syntax.{w32}
 use mir.Val.{SFits, toZ, ofZ}
 use Rattle.whole.specs.Numbers.{_>>_, round2}
 use Rattle.whole.proofs.Machine.{E, var, lit, _⊕_, _⊛_, _≫_, ok, raw, ev, need, reads}
-use Rattle.av1.specs.Sides.{Side, of4, of8, of16, of32}
+use Rattle.av1.specs.Sides.{Side, of4, of8, of16, of32, side}
 use Rattle.itx_1d.specs.Passes.{identity}
-use Rattle.itx_1d.specs.Inner.{sided}
 use Rattle.itx_1d.proofs.Through.{sided-32}
 use Rattle.itx_1d.proofs.identity_of.Statement.{statement}
 use Rattle.itx_1d.proofs.identity_of.Tie as tie
@@ -31,20 +30,20 @@ module _ (s : tie.Start) where
   is : (e : E) → T (ok (524288 ∷ []) e w32) → toZ w32 (ofZ w32 (raw (s .args .v ∷ []) e w32)) ≡ ev (s .args .v ∷ []) e
   is e t = reads (s .args .v ∷ []) (524288 ∷ []) (s .pre, tt) e w32 t
 
-  as-side : (k : Side) → sided (s .args .n) ≡ k → identity k (s .args .v) ≡ identity (sided (s .args .n)) (s .args .v)
+  as-side : (k : Side) → side (s .args .n) ≡ k → identity k (s .args .v) ≡ identity (side (s .args .n)) (s .args .v)
   as-side k e = ap (λ (j : Side). identity j (s .args .v)) (sym e)
 
 returns : tie.Need-returns
 unfolding identity Rattle.whole.specs.Numbers.round2 Rattle.whole.specs.Numbers._>>_
-returns c = let s = c .before in is s of-4 tt ∙ as-side s of4 (ap sided (c .match .keys1))
+returns c = let s = c .before in is s of-4 tt ∙ as-side s of4 (ap side (c .match .keys1))
 
 returns-2 : tie.Need-returns-2
 unfolding identity
-returns-2 c = let s = c .before in is s (var 0 ⊛ lit (pos 2)) tt ∙ as-side s of8 (ap sided (c .match .keys2))
+returns-2 c = let s = c .before in is s (var 0 ⊛ lit (pos 2)) tt ∙ as-side s of8 (ap side (c .match .keys2))
 
 returns-3 : tie.Need-returns-3
 unfolding identity Rattle.whole.specs.Numbers.round2 Rattle.whole.specs.Numbers._>>_
-returns-3 c = let s = c .before in is s of-16 tt ∙ as-side s of16 (ap sided (c .match .keys3))
+returns-3 c = let s = c .before in is s of-16 tt ∙ as-side s of16 (ap side (c .match .keys3))
 
 returns-4 : tie.Need-returns-4
 unfolding identity

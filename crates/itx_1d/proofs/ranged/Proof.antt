@@ -16,13 +16,14 @@ use borrow.Author.Needs.{needs}
 use Rattle.whole.specs.Numbers.{outside}
 use Rattle.whole.specs.Lists.{at, first}
 use Rattle.whole.proofs.Held.{to2}
+use Rattle.av1.specs.Sides.{side}
 use Rattle.itx_1d.specs.declared.Kind.{Kind}
 use Rattle.itx_1d.specs.declared.Kind.the-variants.{Dct, Identity, Wht}
 use Rattle.itx_1d.specs.declared.Pass.{Pass}
 use Rattle.itx_1d.specs.declared.Pass.the-variants.{Done}
 use Rattle.itx_1d.specs.Calls as Calls
 use Rattle.itx_1d.specs.Calls.{Outcome, bad-range, accepted, Meets}
-use Rattle.itx_1d.specs.Inner.{sided, range-check, checked, Ranged, Passable, Passing, PassIs, takes-range}
+use Rattle.itx_1d.specs.Inner.{range-check, checked, Ranged, Passable, Passing, PassIs, takes-range}
 use Rattle.itx_1d.proofs.Accepted.{verdict, defined, Good, good, accepted-is, refused-is, passable, ranged-of, ranged-is, done}
 use Rattle.itx_1d.proofs.Pass.{the-type}
 use Rattle.itx_1d.proofs.Through.{ends-of}
@@ -43,9 +44,9 @@ module _ (s : tie.Start) where
   offender = first (s .args .n) (λ i. outside (at (s .args .c .now) (i * s .args .stride)) (s .args .min) (s .args .max))
 
   abbrev out : Outcome
-  out = accepted (s .args .kind) (sided (s .args .n)) (natAbs (s .args .min)) (s .args .stride) (s .args .c .now)
+  out = accepted (s .args .kind) (side (s .args .n)) (natAbs (s .args .min)) (s .args .stride) (s .args .c .now)
 
-  defined-is : Calls.ranged (s .args .kind) (sided (s .args .n)) (s .args .c .now) (s .args .stride) (s .args .min) (s .args .max) ≡ defined range none-apart short offender (s .args .c .now) out
+  defined-is : Calls.ranged (s .args .kind) (side (s .args .n)) (s .args .c .now) (s .args .stride) (s .args .min) (s .args .max) ≡ defined range none-apart short offender (s .args .c .now) out
   defined-is = ranged-is (s .args .kind) (s .args .n) (s .args .c .now) (s .args .stride) (s .args .min) (s .args .max) (s .pre .is-length)
 
 abbrev start : tie.After-check → tie.Start

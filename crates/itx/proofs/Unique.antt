@@ -1,0 +1,65 @@
+-- No second outcome meets a public call's contract.
+use mathlib.Core.Path.{_≡_, refl, sym, ap, _∙_}
+use mathlib.Core.Bool.{false, cond}
+use mathlib.Core.List.{List}
+use Prim.Native.Nat.{ℕ}
+use lib.Dec.{eqb}
+use lib.IntN.{ℤ}
+use Rattle.itx_1d.specs.Calls as Passes
+use Rattle.itx.specs.declared.Answer.{Answer}
+use Rattle.itx.specs.declared.Answer.the-variants.{Done, Refused}
+use Rattle.itx.specs.declared.Refusal.{Refusal}
+use Rattle.itx.specs.declared.Refusal.the-variants.{NoSize, NoType, NoDepth, NegativeEob, NoSuchRows, FewCoefficients, BadStride, RowOutside, OutOfRange, Stray}
+use Rattle.itx.specs.Answers.{number, place, answer-of}
+use Rattle.itx.specs.Calls.{Block, Call, Meets}
+use Rattle.itx.proofs.Outcomes.{one-outcome}
+
+-- the refusal, and the answer, that the table's numbers stand for
+refusal : ℕ → ℕ → Refusal
+refusal n i =
+    cond (eqb n 1) NoSize
+    (cond (eqb n 2) NoType
+    (cond (eqb n 3) NoDepth
+    (cond (eqb n 4) NegativeEob
+    (cond (eqb n 5) NoSuchRows
+    (cond (eqb n 6) FewCoefficients
+    (cond (eqb n 7) BadStride
+    (cond (eqb n 8) RowOutside
+    (cond (eqb n 9) (OutOfRange i)
+    (Stray i)))))))))
+
+refusal-is : (r : Refusal) → refusal (number r) (place r) ≡ r
+unfolding refusal
+refusal-is NoSize = refl
+refusal-is NoType = refl
+refusal-is NoDepth = refl
+refusal-is NegativeEob = refl
+refusal-is NoSuchRows = refl
+refusal-is FewCoefficients = refl
+refusal-is BadStride = refl
+refusal-is RowOutside = refl
+refusal-is (OutOfRange i) = refl
+refusal-is (Stray i) = refl
+
+back : Passes.Answer → Answer
+back a = cond (eqb (a .number) 0) (Done (a .mark)) (Refused (refusal (a .number) (a .place)))
+
+not-zero : (r : Refusal) → eqb (number r) 0 ≡ false
+not-zero NoSize = refl
+not-zero NoType = refl
+not-zero NoDepth = refl
+not-zero NegativeEob = refl
+not-zero NoSuchRows = refl
+not-zero FewCoefficients = refl
+not-zero BadStride = refl
+not-zero RowOutside = refl
+not-zero (OutOfRange i) = refl
+not-zero (Stray i) = refl
+
+back-is : (r : Answer) → back (answer-of r) ≡ r
+unfolding back
+back-is (Done b) = refl
+back-is (Refused r) = (λ i. cond (not-zero r i) (Done false) (Refused (refusal-is r i)))
+
+pub one-answer : {call : Call} {b : Block} {r r′ : Answer} {ps ps′ : List ℕ} {c c′ : List ℤ} → Meets call b (answer-of r) ps c → Meets call b (answer-of r′) ps′ c′ → (r ≡ r′) × (ps ≡ ps′) × (c ≡ c′)
+one-answer {r = r} {r′ = r′} m m′ = let o = one-outcome m m′ in (sym (back-is r) ∙ ap back (o .0) ∙ back-is r′, o .1, o .2)
