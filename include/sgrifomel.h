@@ -54,6 +54,24 @@ uint64_t sgrifomel_inv_identity16_1d(int32_t *c, size_t len, size_t stride, int3
 uint64_t sgrifomel_inv_identity32_1d(int32_t *c, size_t len, size_t stride, int32_t min, int32_t max);
 uint64_t sgrifomel_inv_wht4_1d(int32_t *c, size_t len, size_t stride);
 
+/* Two-dimensional transforms, added to a block of w by h pixels. dst is a plane of dst_len pixels, 16 bits each at every
+   depth; row y of the block starts at pixel offset + y * (stride / 2): stride counts bytes and may be negative. The
+   coefficient of row y, column x is coeff[y + x * h] of coeff_len. dst and coeff may not overlap, and nothing else may touch
+   either during the call. Every other value of the arguments is checked. The first w*h coefficients become 0. With DCT_DCT
+   and eob 0 the plain call uses and clears the first alone. The live-row call takes rows r and later for zero rows. */
+enum {
+    SGRIFOMEL_DCT_DCT = 0,
+    SGRIFOMEL_IDTX = 9,
+    SGRIFOMEL_V_DCT = 10,  /* rows identity, columns DCT; where w*h is at most 128, and 16x16 */
+    SGRIFOMEL_H_DCT = 11,  /* rows DCT, columns identity; likewise */
+    SGRIFOMEL_WHT_WHT = 16 /* 4x4 only */
+};
+
+uint64_t sgrifomel_inv_txfm_add(uint16_t *dst, size_t dst_len, uint32_t offset, int32_t stride, int32_t *coeff,
+                                size_t coeff_len, int32_t eob, size_t w, size_t h, size_t txtp, size_t depth);
+uint64_t sgrifomel_inv_txfm_add_live(uint16_t *dst, size_t dst_len, uint32_t offset, int32_t stride, int32_t *coeff,
+                                     size_t coeff_len, size_t r, size_t w, size_t h, size_t txtp, size_t depth);
+
 #ifdef __cplusplus
 }
 #endif

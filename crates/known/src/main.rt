@@ -1,8 +1,10 @@
 // Runs document 01's known results and both sides of its edges, and writes a line for each: the call, then number, place,
-// mark and elements.
+// mark and what it left.
+mod blocks;
 mod passes;
 mod show;
 
 fn main() {
     passes::all();
+    blocks::all();
 }

@@ -18,6 +18,47 @@ pub fn elements(c: &[i32]) {
     }
 }
 
+pub fn number(name: &[u8], v: u64) {
+    io::write_all(1, name);
+    io::print_decimal(1, v);
+}
+
+fn pixel(v: u16) {
+    number(b" ", v as u64);
+}
+
+pub fn pixels(dst: &[u16]) {
+    for i in 0..dst.len() {
+        let v = dst[i];
+        pixel(v);
+    }
+}
+
+pub fn size(w: usize, h: usize, txtp: usize, depth: usize) {
+    number(b"", w as u64);
+    number(b"x", h as u64);
+    number(b" type ", txtp as u64);
+    number(b" depth ", depth as u64);
+}
+
+pub fn plane(offset: u32, stride: i32) {
+    number(b" offset ", offset as u64);
+    io::write_all(1, b" stride");
+    signed(stride);
+}
+
+pub fn eob(eob: i32) {
+    io::write_all(1, b" eob");
+    signed(eob);
+}
+
+pub fn block(dst: &[u16], c: &[i32]) {
+    io::write_all(1, b" pixels");
+    pixels(dst);
+    io::write_all(1, b" coefficients");
+    elements(c);
+}
+
 pub fn call(name: &[u8], n: usize, c: &[i32], stride: usize) {
     io::write_all(1, name);
     io::print_decimal(1, n as u64);

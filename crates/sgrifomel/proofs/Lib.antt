@@ -1,3 +1,4 @@
 -- Laws of the words.
 pub mod Places
+pub mod Blocks
 pub mod Unique

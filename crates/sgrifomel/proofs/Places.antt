@@ -24,20 +24,20 @@ headed true o n i h e = let z : _≡_ {A = ℕ} 0 i = cc in omega arith
 headed false none n i h e = let z : _≡_ {A = ℕ} 0 1 = cc in let x : ⊥ = omega arith in absurd x
 headed false (some j) n i h e = let z : suc j ≡ i = cc in omega (arith, h j refl)
 
-first-below : (n : ℕ) (f : ℕ → Bool) (i : ℕ) → first n f ≡ some i → i < n
+pub first-below : (n : ℕ) (f : ℕ → Bool) (i : ℕ) → first n f ≡ some i → i < n
 first-below zero f i e = let z : _≡_ {A = ℕ} 0 1 = cc in let x : ⊥ = omega arith in absurd x
 first-below (suc n) f i e = headed (f zero) (first n (λ j. f (suc j))) n i (first-below n (λ j. f (suc j))) e
 
 -- the place that a check gives is small
-abbrev Small : Check (Unit {0}) → Type 0
-Small (accept u) = Unit {0}
+abbrev pub Small : {A : Type 0} → Check A → Type 0
+Small (accept a) = Unit {0}
 Small (refuse number i) = i < 1024
 
-small-unless : (t : Bool) (number : ℕ) (k : Check (Unit {0})) → Small k → Small (unless t number k)
+pub small-unless : {A : Type 0} (t : Bool) (number : ℕ) (k : Check A) → Small k → Small (unless t number k)
 small-unless true number k h = omega arith
 small-unless false number k h = h
 
-small-at : (p : Option ℕ) (number : ℕ) (k : Check (Unit {0})) → ((i : ℕ) → p ≡ some i → i < 1024) → Small k → Small (unless-at p number k)
+pub small-at : {A : Type 0} (p : Option ℕ) (number : ℕ) (k : Check A) → ((i : ℕ) → p ≡ some i → i < 1024) → Small k → Small (unless-at p number k)
 small-at (some i) number k b h = b i refl
 small-at none number k b h = h
 

@@ -5,6 +5,7 @@ use mathlib.Core.List.{List}
 use Prim.Native.Nat.{ℕ, _+_, _*_}
 use lib.IntN.{ℤ}
 use Rattle.itx_1d.specs.Calls.{Answer, Outcome}
+use Rattle.itx.specs.Calls as Blocks
 
 -- the number in bits 0 to 7, the mark in bit 8, the place from bit 16 up
 abbrev pub packed : Answer → ℕ
@@ -14,3 +15,9 @@ packed a = a .number + 256 * cond (a .mark) 1 0 + 65536 * a .place
 pub record Packs (o : Outcome) (r : ℕ) (c : List ℤ) : Type 0 where
   pub answer : r ≡ packed (o .answer)
   pub elements : c ≡ o .elements
+
+-- what an exported block call answers and leaves
+pub record PacksBlock (o : Blocks.Outcome) (r : ℕ) (ps : List ℕ) (c : List ℤ) : Type 0 where
+  pub answer : r ≡ packed (o .answer)
+  pub pixels : ps ≡ o .pixels
+  pub coefs : c ≡ o .coefs

@@ -4,8 +4,15 @@ ghost use Prim.Native.Nat.{_<_};
 ghost use Rattle.av1.specs.Sides.{of4, of8, of16, of32};
 ghost use Rattle.itx_1d.specs.Calls as Calls;
 ghost use Rattle.itx_1d.specs.declared.Kind.the-variants.{Dct, Identity};
-ghost use Rattle.sgrifomel.specs.Words.{packed, Packs};
+ghost use Rattle.strided.specs.Planes.{lent};
+ghost use Rattle.itx.specs.Calls as Blocks;
+ghost use Rattle.itx.specs.Answers as Answers;
+ghost use Rattle.itx.specs.Answers.{block};
+ghost use Rattle.sgrifomel.specs.Words.{packed, Packs, PacksBlock};
+use itx::Answer;
+use itx::Refusal;
 use itx_1d::Pass;
+use strided::ByteStride;
 
 // No call has a place past the 1,024 numbers of a block, so a word holds it.
 fn pack(pass: Pass) -> u64
@@ -102,4 +109,68 @@ pub extern "C" fn sgrifomel_inv_wht4_1d(c: &mut [i32], stride: usize) -> u64
     ensures { λ r. ⌜ Packs (Calls.unranged (now (c .entry)) stride) r (now (c .exit)) ⌝ }
 {
     pack(itx_1d::inv_wht4_1d(c, stride))
+}
+
+fn pack_refusal(refusal: Refusal) -> u64
+    requires { ⌜ Answers.place refusal < 1024 ⌝ }
+    ensures { λ r. ⌜ r ≡ packed (Calls.refusal (Answers.number refusal) (Answers.place refusal)) ⌝ }
+{
+    match refusal {
+        Refusal::NoSize => 1,
+        Refusal::NoType => 2,
+        Refusal::NoDepth => 3,
+        Refusal::NegativeEob => 4,
+        Refusal::NoSuchRows => 5,
+        Refusal::FewCoefficients => 6,
+        Refusal::BadStride => 7,
+        Refusal::RowOutside => 8,
+        Refusal::OutOfRange(i) => 9 + 65536 * (i as u64),
+        Refusal::Stray(i) => 10 + 65536 * (i as u64),
+    }
+}
+
+fn pack_answer(answer: Answer) -> u64
+    requires { ⌜ Answers.answer-of answer .place < 1024 ⌝ }
+    ensures { λ r. ⌜ r ≡ packed (Answers.answer-of answer) ⌝ }
+{
+    match answer {
+        Answer::Done(mark) => if mark { 256 } else { 0 },
+        Answer::Refused(refusal) => pack_refusal(refusal),
+    }
+}
+
+#[no_mangle]
+pub extern "C" fn sgrifomel_inv_txfm_add(
+    dst: &mut [u16],
+    offset: u32,
+    stride: i32,
+    coeff: &mut [i32],
+    eob: i32,
+    w: usize,
+    h: usize,
+    txtp: usize,
+    depth: usize,
+) -> u64
+    ensures { λ r. ⌜ PacksBlock (Blocks.outcome (Blocks.plain eob) (block w h txtp depth (now (coeff .entry)) (lent (now (dst .entry)) offset stride))) r (now (dst .exit)) (now (coeff .exit)) ⌝ }
+{
+    let bytes = ByteStride(stride);
+    pack_answer(itx::inv_txfm_add(dst, offset, bytes, coeff, eob, w, h, txtp, depth))
+}
+
+#[no_mangle]
+pub extern "C" fn sgrifomel_inv_txfm_add_live(
+    dst: &mut [u16],
+    offset: u32,
+    stride: i32,
+    coeff: &mut [i32],
+    r: usize,
+    w: usize,
+    h: usize,
+    txtp: usize,
+    depth: usize,
+) -> u64
+    ensures { λ a. ⌜ PacksBlock (Blocks.outcome (Blocks.live r) (block w h txtp depth (now (coeff .entry)) (lent (now (dst .entry)) offset stride))) a (now (dst .exit)) (now (coeff .exit)) ⌝ }
+{
+    let bytes = ByteStride(stride);
+    pack_answer(itx::inv_txfm_add_live(dst, offset, bytes, coeff, r, w, h, txtp, depth))
 }

@@ -1,0 +1,71 @@
+-- Some files, by computing.
+use mathlib.Core.Path.{_≡_, refl}
+use mathlib.Core.List.{[], _∷_, _++_}
+use lib.IntN.{pos, negsuc}
+use lib.ListN.{replicate}
+use Rattle.blockfile.specs.Read.{got, refused}
+use Rattle.blockfile.specs.Number.{readNumber}
+use Rattle.blockfile.specs.Zigzag.{zig}
+use Rattle.blockfile.specs.File.{all, before, unknown, file, readBlocks}
+
+-- the largest number, one more, and a fifth group with its top bit set, where 16 comes before 17
+largest : readNumber (255 ∷ 255 ∷ 255 ∷ 255 ∷ 15 ∷ []) ≡ got 4294967295 []
+unfolding readNumber
+largest = refl
+
+too-large : readNumber (128 ∷ 128 ∷ 128 ∷ 128 ∷ 16 ∷ []) ≡ refused 16
+unfolding readNumber
+too-large = refl
+
+fifth-group : readNumber (128 ∷ 128 ∷ 128 ∷ 128 ∷ 128 ∷ 0 ∷ []) ≡ refused 16
+unfolding readNumber
+fifth-group = refl
+
+-- a needless group, and the same file without it
+needless : readNumber (132 ∷ 0 ∷ []) ≡ refused 17
+unfolding readNumber
+needless = refl
+
+-- the least coefficient takes the largest number
+least : zig (negsuc 2147483647) ≡ 4294967295
+unfolding zig
+least = refl
+
+empty : readBlocks [] ≡ unknown 15
+unfolding readBlocks
+empty = refl
+
+not-1 : readBlocks (2 ∷ 4 ∷ []) ≡ unknown 18
+unfolding readBlocks
+not-1 = refl
+
+no-records : readBlocks (1 ∷ []) ≡ file 1 (all [])
+unfolding readBlocks
+no-records = refl
+
+-- the size is judged as soon as h is read, the rest where reading meets it
+wrong-size : readBlocks (1 ∷ 4 ∷ 32 ∷ []) ≡ file 1 (before [] 1 1)
+unfolding readBlocks
+wrong-size = refl
+
+ends-early : readBlocks (1 ∷ 4 ∷ 4 ∷ 0 ∷ 8 ∷ []) ≡ file 1 (before [] 1 15)
+unfolding readBlocks
+ends-early = refl
+
+large-eob : readBlocks (1 ∷ 4 ∷ 4 ∷ 0 ∷ 8 ∷ 128 ∷ 128 ∷ 128 ∷ 128 ∷ 8 ∷ []) ≡ file 1 (before [] 1 16)
+unfolding readBlocks
+large-eob = refl
+
+large-pixel : readBlocks (1 ∷ 4 ∷ 4 ∷ 0 ∷ 8 ∷ 0 ∷ (replicate 16 0 ++ (128 ∷ 128 ∷ 4 ∷ []))) ≡ file 1 (before [] 1 19)
+unfolding readBlocks
+large-pixel = refl
+
+-- document 01's 4x4 DCT_DCT with first coefficient 64 and eob 0; 64 is written 128, which takes two groups
+known : readBlocks (1 ∷ 4 ∷ 4 ∷ 0 ∷ 8 ∷ 0 ∷ 128 ∷ 1 ∷ (replicate 15 0 ++ replicate 16 100))
+    ≡ file 1 (all (record {
+      head = record { w = 4; h = 4; txtp = 0; depth = 8; eob = 0 };
+      coefficients = pos 64 ∷ replicate 15 (pos 0);
+      pixels = replicate 16 100;
+    } ∷ []))
+unfolding readBlocks
+known = refl

@@ -1,0 +1,21 @@
+-- Laws of block files; then what the loops of the code keep.
+pub mod Readings
+pub mod Numbers
+pub mod Zigzags
+pub mod Forms
+pub mod Rooms
+pub mod Records
+pub mod Files
+pub mod Streaming
+pub mod Stored
+pub mod Walk
+pub mod Putting
+pub mod Signs
+pub mod Fill
+pub mod Heads
+pub mod Loads
+pub mod Writing
+pub mod Turns
+pub mod Stepping
+pub mod Unique
+pub mod Examples

@@ -1,0 +1,90 @@
+-- `number::read_number` meets its contract: the invariant is `Reading`.
+use mathlib.Core.Path.{_∙_}
+use Prim.Native.Nat.{ℕ, _+_, _-_, _*_}
+use native.Mathlib.Omega.{arith}
+use lib.ListN.{getD}
+use mir.Syntax.{w32}
+use mir.Val.{Fits}
+use Rattle.blockfile.proofs.Walk.{Reading, start, ended, highest-last, highest-large, later-last, go-on, fits-highest, fits-later, scale-most}
+use Rattle.blockfile.proofs.number.read_number.Statement.{statement}
+use Rattle.blockfile.proofs.number.read_number.Tie as tie
+
+abbrev Inv-loop : tie.InvT-loop
+Inv-loop s at i₀ left₀ value₀ scale₀ i left value scale = Reading s at i left value scale
+
+abbrev μ-loop : tie.MeasureT-loop
+μ-loop s at i₀ left₀ value₀ scale₀ i left value scale = left
+
+-- where the turn began, and the group that it read
+abbrev top : tie.After-shared-slice-known2 Inv-loop μ-loop → tie.At-loop Inv-loop μ-loop
+top c = c .before .before
+
+abbrev group : tie.After-shared-slice-known2 Inv-loop μ-loop → ℕ
+group c = getD (top c .before .before .args .s .now) (top c .loop .i) 0
+
+loop-holds : tie.Need-loop-holds Inv-loop μ-loop
+loop-holds c = start (c .before .args .s .now) (c .before .args .at)
+
+returns : tie.Need-returns Inv-loop μ-loop
+returns c = ended (c .before .loop .inv) (c .if1 .taken)
+
+shared-slice-read-b : tie.Need-shared-slice-read-b Inv-loop μ-loop
+shared-slice-read-b c = omega arith
+
+cast-b : tie.Need-cast-b Inv-loop μ-loop
+cast-b c = omega (arith, c .shared-slice-known2 .given (c .before .before .loop .i))
+
+add-i : tie.Need-add-i Inv-loop μ-loop
+add-i c = omega arith
+
+last-group-requires : tie.Need-last-group-requires Inv-loop μ-loop
+last-group-requires c κs = fits-highest (top (c .before .before) .loop .inv) _ (c .before .if2 .taken) (c .if3 .taken)
+
+returns-2 : tie.Need-returns-2 Inv-loop μ-loop
+returns-2 c =
+    let b = c .before .before .before in
+    c .last-group .ensures ∙ highest-last (top b .loop .inv) (b .before .if1 .left) (c .before .before .if2 .taken) (c .before .if3 .taken)
+
+returns-3 : tie.Need-returns-3 Inv-loop μ-loop
+returns-3 c =
+    let b = c .before .before in
+    highest-large (top b .loop .inv) (b .before .if1 .left) (c .before .if2 .taken) (c .if3 .left)
+
+last-group-requires-2 : tie.Need-last-group-requires-2 Inv-loop μ-loop
+last-group-requires-2 c κs = fits-later (top (c .before .before) .loop .inv) _ (c .before .if2 .left) (c .if4 .taken)
+
+returns-4 : tie.Need-returns-4 Inv-loop μ-loop
+returns-4 c =
+    let b = c .before .before .before in
+    c .last-group2 .ensures ∙ later-last (top b .loop .inv) (b .before .if1 .left) (c .before .before .if2 .left) (c .before .if4 .taken)
+
+-- the group's share fits with what came before
+shares : (c : tie.Else4 Inv-loop μ-loop) → let b = c .before .before in Fits w32 (top b .loop .value + (group b - 128) * top b .loop .scale)
+shares c =
+    let b = c .before .before in
+    record { fits = fits-later (top b .loop .inv) _ (c .before .if2 .left) (omega (arith, b .shared-slice-known2 .given (top b .loop .i))) }
+
+mul-value : tie.Need-mul-value Inv-loop μ-loop
+mul-value c = omega (arith, shares c)
+
+add-value : tie.Need-add-value Inv-loop μ-loop
+add-value c = shares c
+
+mul-scale : tie.Need-mul-scale Inv-loop μ-loop
+mul-scale c = omega (arith, scale-most (top (c .before .before) .loop .inv) (c .before .if2 .left))
+
+sub-left : tie.Need-sub-left Inv-loop μ-loop
+sub-left c = omega arith
+
+loop-less : tie.Need-loop-less Inv-loop μ-loop
+loop-less c = omega arith
+
+loop-again : tie.Need-loop-again Inv-loop μ-loop
+loop-again c =
+    let b = c .before .before in
+    go-on (top b .loop .inv) (b .before .if1 .left) (c .before .if2 .left) (c .if4 .left) (b .shared-slice-known2 .given (top b .loop .i) .fits)
+
+pub read-number-spec : {M : Type 1} → statement M
+read-number-spec =
+    tie.close
+    (tie.spec Inv-loop μ-loop loop-holds returns shared-slice-read-b cast-b add-i last-group-requires returns-2 returns-3 last-group-requires-2 returns-4 mul-value add-value mul-scale sub-left loop-less loop-again)

@@ -1,0 +1,66 @@
+-- A form: how the values of a type are written, and how they are read. Every form is made of numbers in four ways.
+use mathlib.Core.Bool.{Bool}
+use mathlib.Core.List.{List, [], _∷_, _++_}
+use Prim.Native.Nat.{ℕ, zero, suc}
+use Rattle.blockfile.specs.Read.{Read, got, andThen, test}
+use Rattle.blockfile.specs.Number.{readNumber, writeNumber}
+
+pub record Form (A : Type 0) : Type 0 where
+  pub write : A → List ℕ
+  pub read : List ℕ → Read A
+
+unfoldable pub number : Form ℕ
+unfolding readNumber writeNumber
+number = record { write = writeNumber; read = readNumber }
+
+-- c, of which a value that fails a test is refused by the number k
+module _ {A : Type 0} (c : Form A) (ok : A → Bool) (k : ℕ) where
+  unfoldable pub tested : A → List ℕ → Read A
+  tested a rest = test (ok a) k a rest
+
+  unfoldable pub onlyIf : Form A
+  unfolding tested test andThen
+  onlyIf = record { write = c .write; read = λ bs. andThen (c .read bs) tested }
+
+-- c, its values called otherwise: `to` and `from` are inverse
+module _ {A B : Type 0} (c : Form A) (to : A → B) (from : B → A) where
+  unfoldable pub named : A → List ℕ → Read B
+  named a rest = got (to a) rest
+
+  unfoldable pub called : Form B
+  unfolding named andThen
+  called = record { write = λ b. c .write (from b); read = λ bs. andThen (c .read bs) named }
+
+-- c and then d, which may go by what c has
+module _ {A B : Type 0} (c : Form A) (d : A → Form B) where
+  unfoldable pub second : A → List ℕ → Read (A × B)
+  second a bs = andThen (d a .read bs) (λ b rest. got (a, b) rest)
+
+  unfoldable pub written : A × B → List ℕ
+  written p = c .write (p .0) ++ d (p .0) .write (p .1)
+
+  unfoldable pub followed : Form (A × B)
+  unfolding second written andThen
+  followed = record { write = written; read = λ bs. andThen (c .read bs) second }
+
+-- c, n times
+module _ {A : Type 0} (c : Form A) where
+  unfoldable pub writeEach : List A → List ℕ
+  writeEach [] = []
+  writeEach (x ∷ xs) = c .write x ++ writeEach xs
+
+  unfoldable pub readEach : ℕ → List ℕ → Read (List A)
+  unfolding andThen
+  readEach zero bs = got [] bs
+  readEach (suc n) bs = andThen (c .read bs) (λ x rest. andThen (readEach n rest) (λ xs r. got (x ∷ xs) r))
+
+  unfoldable pub times : ℕ → Form (List A)
+  unfolding readEach writeEach
+  times n = record { write = writeEach; read = readEach n }
+
+-- n values, each with P
+unfoldable pub Each : {A : Type 0} → (A → Type 0) → ℕ → List A → Type 0
+Each P zero [] = Unit {0}
+Each P zero (x ∷ xs) = ⊥
+Each P (suc n) [] = ⊥
+Each P (suc n) (x ∷ xs) = P x × Each P n xs

@@ -1,0 +1,3 @@
+-- What the loops of the program keep.
+pub mod Buffer
+pub mod Held

@@ -1,0 +1,2 @@
+-- What the program may write.
+pub mod Output

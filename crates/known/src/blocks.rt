@@ -1,0 +1,260 @@
+// The two-dimensional calls: document 01, "Known results", and both sides of numbers 1 to 10.
+ghost use Prim.Native.Nat.{_<_};
+use crate::show;
+use itx::Answer;
+use itx::Refusal;
+use strided::ByteStride;
+
+fn place(refusal: Refusal) -> u64 {
+    match refusal {
+        Refusal::OutOfRange(i) => i as u64,
+        Refusal::Stray(i) => i as u64,
+        _ => 0,
+    }
+}
+
+fn shown(answer: Answer, dst: &[u16], c: &[i32]) {
+    match answer {
+        Answer::Done(mark) => show::answer(0, 0, mark),
+        Answer::Refused(refusal) => show::answer(itx::number(answer) as u64, place(refusal), false),
+    }
+    show::block(dst, c);
+    show::end();
+}
+
+fn plain(
+    dst: &mut [u16],
+    offset: u32,
+    stride: i32,
+    c: &mut [i32],
+    eob: i32,
+    w: usize,
+    h: usize,
+    txtp: usize,
+    depth: usize,
+) {
+    show::size(w, h, txtp, depth);
+    show::plane(offset, stride);
+    show::eob(eob);
+    show::block(&*dst, &*c);
+    let bytes = ByteStride(stride);
+    let answer = itx::inv_txfm_add(&mut *dst, offset, bytes, &mut *c, eob, w, h, txtp, depth);
+    shown(answer, &*dst, &*c);
+}
+
+fn live(
+    dst: &mut [u16],
+    offset: u32,
+    stride: i32,
+    c: &mut [i32],
+    r: usize,
+    w: usize,
+    h: usize,
+    txtp: usize,
+    depth: usize,
+) {
+    show::size(w, h, txtp, depth);
+    show::plane(offset, stride);
+    show::number(b" r ", r as u64);
+    show::block(&*dst, &*c);
+    let bytes = ByteStride(stride);
+    let answer = itx::inv_txfm_add_live(&mut *dst, offset, bytes, &mut *c, r, w, h, txtp, depth);
+    shown(answer, &*dst, &*c);
+}
+
+// 4x4 over pixels of 100.
+fn first_of_4x4(first: i32, eob: i32, txtp: usize, depth: usize) {
+    let mut c = [0i32; 16];
+    c[0] = first;
+    plain(&mut [100u16; 16], 0, 8, &mut c, eob, 4, 4, txtp, depth);
+}
+
+fn of_4x4() {
+    first_of_4x4(64, 0, 0, 8);
+    first_of_4x4(64, 0, 9, 8);
+    first_of_4x4(64, 1, 9, 8);
+    first_of_4x4(64, 1, 11, 8);
+    first_of_4x4(64, 1, 10, 8);
+    first_of_4x4(8, 1, 16, 8);
+    first_of_4x4(8, 0, 16, 8);
+}
+
+fn of_8x8(eob: i32) {
+    let mut c = [0i32; 64];
+    c[0] = 1000;
+    let mut dst = [100u16; 64];
+    dst[0] = 250;
+    plain(&mut dst, 0, 16, &mut c, eob, 8, 8, 0, 8);
+}
+
+fn tall(eob: i32) {
+    let mut c = [0i32; 32];
+    c[0] = 200;
+    plain(&mut [100u16; 32], 0, 8, &mut c, eob, 4, 8, 0, 8);
+    let mut d = [0i32; 64];
+    d[0] = 200;
+    plain(&mut [100u16; 64], 0, 8, &mut d, eob, 4, 16, 0, 8);
+}
+
+fn of_depth_10(eob: i32) {
+    first_of_4x4(131071, eob, 0, 10);
+    let mut c = [0i32; 16];
+    c[0] = -131072;
+    let mut dst = [100u16; 16];
+    dst[0] = 2000;
+    plain(&mut dst, 0, 8, &mut c, eob, 4, 4, 0, 10);
+}
+
+// A stray is neither used nor cleared by the shortcut, nor are coefficients past the block by either way.
+fn left() {
+    let mut c = [0i32; 18];
+    c[0] = 64;
+    c[5] = 7;
+    c[16] = 77;
+    c[17] = -77;
+    plain(&mut [100u16; 17], 0, 8, &mut c, 0, 4, 4, 0, 8);
+    c[0] = 64;
+    c[5] = 0;
+    plain(&mut [100u16; 17], 1, 8, &mut c, 1, 4, 4, 9, 8);
+}
+
+// A refusal by its kind, with the first number that applies.
+fn kinds(w: usize, h: usize, txtp: usize, depth: usize) {
+    let mut c = [0i32; 16];
+    c[0] = 64;
+    plain(&mut [100u16; 16], 0, 8, &mut c, 1, w, h, txtp, depth);
+}
+
+fn numbers_1_to_3() {
+    kinds(4, 32, 9, 8);
+    kinds(32, 4, 9, 8);
+    kinds(4, 5, 9, 8);
+    kinds(0, 4, 9, 8);
+    kinds(64, 64, 9, 8);
+    kinds(4, 32, 99, 9);
+    kinds(4, 4, 1, 8);
+    kinds(4, 4, 17, 8);
+    kinds(4, 8, 16, 8);
+    kinds(8, 32, 10, 8);
+    kinds(8, 32, 11, 8);
+    kinds(4, 4, 1, 9);
+    kinds(4, 4, 9, 9);
+    kinds(4, 4, 9, 0);
+    kinds(4, 4, 9, 14);
+    kinds(4, 4, 9, 10);
+    kinds(4, 4, 9, 12);
+}
+
+fn number_4() {
+    first_of_4x4(64, -1, 0, 8);
+    first_of_4x4(64, -2147483648, 9, 8);
+    first_of_4x4(8, -1, 16, 8);
+    first_of_4x4(64, 2147483647, 9, 8);
+}
+
+fn rows(r: usize) {
+    let mut c = [0i32; 16];
+    c[0] = 64;
+    live(&mut [100u16; 16], 0, 8, &mut c, r, 4, 4, 9, 8);
+}
+
+fn number_5() {
+    rows(4);
+    rows(1);
+    rows(5);
+    rows(0);
+}
+
+fn number_6() {
+    let mut c = [0i32; 15];
+    c[0] = 64;
+    plain(&mut [100u16; 16], 0, 8, &mut c, 1, 4, 4, 9, 8);
+    plain(&mut [100u16; 16], 0, 8, &mut [], 1, 4, 4, 9, 8);
+    live(&mut [100u16; 16], 0, 8, &mut c, 4, 4, 4, 9, 8);
+}
+
+fn placed(offset: u32, stride: i32) {
+    let mut c = [0i32; 16];
+    c[0] = 64;
+    plain(&mut [100u16; 20], offset, stride, &mut c, 1, 4, 4, 9, 8);
+}
+
+fn number_7() {
+    placed(0, 6);
+    placed(0, 9);
+    placed(0, 0);
+    placed(12, -6);
+    placed(12, -7);
+}
+
+fn number_8() {
+    placed(4, 8);
+    placed(5, 8);
+    placed(0, 10);
+    placed(2, 10);
+    placed(12, -8);
+    placed(16, -8);
+    placed(11, -8);
+    placed(17, -8);
+    placed(4294967295, 8);
+    placed(4294967295, -2147483648);
+    placed(0, 2147483646);
+}
+
+fn one_of_4x4(at: usize, v: i32, eob: i32, depth: usize)
+    requires { ⌜ at < 17 ⌝ }
+{
+    let mut c = [0i32; 17];
+    c[at] = v;
+    plain(&mut [100u16; 16], 0, 8, &mut c, eob, 4, 4, 0, depth);
+}
+
+fn number_9() {
+    first_of_4x4(32767, 0, 0, 8);
+    first_of_4x4(-32768, 0, 0, 8);
+    one_of_4x4(0, 32768, 0, 8);
+    one_of_4x4(0, -32769, 0, 8);
+    one_of_4x4(5, 32768, 0, 8);
+    one_of_4x4(15, 32768, 1, 8);
+    one_of_4x4(16, 32768, 0, 8);
+    one_of_4x4(3, 131072, 0, 10);
+    one_of_4x4(3, 524288, 0, 12);
+}
+
+fn strays(at: usize, r: usize)
+    requires { ⌜ at < 16 ⌝ }
+{
+    let mut c = [0i32; 16];
+    c[0] = 64;
+    c[at] = 64;
+    live(&mut [100u16; 16], 0, 8, &mut c, r, 4, 4, 9, 8);
+}
+
+fn number_10() {
+    strays(1, 1);
+    strays(1, 2);
+    strays(4, 1);
+    strays(14, 2);
+    strays(14, 3);
+    strays(15, 3);
+    strays(15, 4);
+}
+
+pub fn all() {
+    of_4x4();
+    of_8x8(0);
+    of_8x8(1);
+    tall(0);
+    tall(1);
+    of_depth_10(0);
+    of_depth_10(1);
+    left();
+    numbers_1_to_3();
+    number_4();
+    number_5();
+    number_6();
+    number_7();
+    number_8();
+    number_9();
+    number_10();
+}

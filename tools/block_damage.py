@@ -1,0 +1,79 @@
+#!/usr/bin/env python3
+"""Runs the program blocks on damaged copies of a block file and compares every byte it writes with what block_cases.py's reader gives.
+
+    tools/block_damage.py FILE DONE COUNT [SEED]              DONE is what the program has to write of FILE
+    tools/block_damage.py --untouched FILE FILE COUNT [SEED]  for a transform that refuses by 3 alone and touches nothing
+
+A copy has the first number and a few records of FILE, cut, or with bytes changed, put in or left out. Where a changed record is
+accepted, nothing is known of its pixels, and the copy is passed over.
+"""
+import os, random, subprocess, sys
+import block_cases as cases
+
+
+def records(b):
+    at, out = 1, []
+    while at < len(b):
+        r, end = cases.read_record(b, at)
+        out.append((r, b[at:end]))
+        at = end
+    return out
+
+
+def damage(b):
+    b = bytearray(b)
+    kind = random.random()
+    if kind < 0.3:
+        return bytes(b[:random.randrange(len(b) + 1)])
+    for _ in range(random.choice([0, 1, 1, 1, 2])):
+        at = random.randrange(len(b))
+        kind = random.randrange(5)
+        if kind == 0:
+            b[at] = random.getrandbits(8)
+        elif kind == 1:
+            b[at] ^= 1 << random.randrange(8)
+        elif kind == 2:
+            b[at:at] = bytes([random.getrandbits(8)])
+        elif kind == 3 and len(b) > 1:
+            del b[at]
+        else:
+            b[at:at + 1] = bytes([random.choice([0x80, 0xFF])] * random.randrange(1, 6) + [random.choice([0, 1, 15, 16])])
+    return bytes(b)
+
+
+def main():
+    words = [w for w in sys.argv[1:] if not w.startswith("-")]
+    if len(words) not in (3, 4):
+        print(__doc__)
+        return 2
+    before, after = (records(open(w, "rb").read()) for w in words[:2])
+    random.seed(int(words[3]) if len(words) == 4 else 1)
+    done = {r: d for (r, _), (d, _) in zip(before, after)}
+
+    def act(r):
+        if "--untouched" in sys.argv:
+            return cases.untouched(r)
+        cases.refuse(r)
+        return done[r]
+
+    starter = os.path.join(os.path.dirname(os.path.abspath(__file__)), "run")
+    counts, wrong, passed = {}, 0, 0
+    for n in range(int(words[2])):
+        b = damage(cases.number(1) + b"".join(random.choice(before)[1] for _ in range(random.choice([0, 1, 2, 3, 8]))))
+        try:
+            out, line = cases.run(b, act)
+        except KeyError:
+            passed += 1
+            continue
+        told = b"" if line == "done" else line.encode() + b"\n"
+        got = subprocess.run([starter, "blocks"], input=b, capture_output=True)
+        if (got.stdout, got.stderr) != (out, told):
+            wrong += 1
+            print("differs:", b.hex()[:200], line, got.stderr)
+        counts[line.split()[-1]] = counts.get(line.split()[-1], 0) + 1
+    print(sum(counts.values()), "run,", wrong, "differ,", passed, "passed over;", counts)
+    return 1 if wrong else 0
+
+
+if __name__ == "__main__":
+    sys.exit(main())
