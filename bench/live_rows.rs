@@ -1,6 +1,6 @@
 //! Times 32x32 DCT_DCT blocks at depth 8 with four nonzero rows: the Rust's long way, and the live-row call (r = 4) and
-//! the plain call of `libsgrifomel.a`, on the same numbers. live_rows [BLOCKS [RUNS]]: each of the three does BLOCKS blocks in
-//! RUNS runs.
+//! the plain call of `libsgrifomel.a`, on the same numbers. live_rows [BLOCKS [RUNS]]: each of the three does BLOCKS
+//! blocks in RUNS runs.
 
 use kernels::exports::{sgrifomel_inv_txfm_add, sgrifomel_inv_txfm_add_live};
 use kernels::itx;
