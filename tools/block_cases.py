@@ -1,8 +1,7 @@
 #!/usr/bin/env python3
 """Makes the files of crates/block_cases: short block files, and what the program has to write of them.
 
-    tools/block_cases.py CRATE            writes CRATE/stdin and CRATE/stdout
-    tools/block_cases.py --untouched CRATE   the same for a transform that refuses by 3 alone and touches nothing
+    tools/block_cases.py CRATE   writes CRATE/stdin and CRATE/stdout
 
 The reader here is written from E1 by itself. What a call does is known only of document 01's known results and of blocks without
 coefficients, so accepted records are among those.
@@ -72,12 +71,6 @@ def read_record(b, at):
             raise Refused(19)
         ps.append(v)
     return (w, h, txtp, depth, eob, tuple(cs), tuple(ps)), at
-
-
-def untouched(r):
-    if r[3] not in ROW:
-        raise Refused(3)
-    return r
 
 
 def run(b, act):
@@ -220,15 +213,14 @@ def refused():
 
 
 def main():
-    words = [w for w in sys.argv[1:] if not w.startswith("-")]
+    words = sys.argv[1:]
     if len(words) != 1:
         print(__doc__)
         return 2
-    act = untouched if "--untouched" in sys.argv else do
     stdin, stdout = b"", ""
     for f in files():
         stdin += bytes([len(f) % 256, len(f) // 256]) + f
-        out, line = run(f, act)
+        out, line = run(f, do)
         stdout += out.hex() + " " + line + "\n"
     open(words[0] + "/stdin", "wb").write(stdin)
     open(words[0] + "/stdout", "w").write(stdout)

@@ -1,11 +1,11 @@
 #!/usr/bin/env python3
 """Runs the program blocks on damaged copies of a block file and compares every byte it writes with what block_cases.py's reader gives.
 
-    tools/block_damage.py FILE DONE COUNT [SEED]              DONE is what the program has to write of FILE
-    tools/block_damage.py --untouched FILE FILE COUNT [SEED]  for a transform that refuses by 3 alone and touches nothing
+    tools/block_damage.py FILE DONE COUNT [SEED [ORACLE]]   DONE is what the program has to write of FILE
 
 A copy has the first number and a few records of FILE, cut, or with bytes changed, put in or left out. Where a changed record is
-accepted, nothing is known of its pixels, and the copy is passed over.
+accepted, nothing is known of its pixels, and the copy is passed over; with ORACLE, the program that tools/oracle/build makes,
+what the Rust gives is wanted instead, and none is passed over.
 """
 import os, random, subprocess, sys
 import block_cases as cases
@@ -42,35 +42,40 @@ def damage(b):
 
 
 def main():
-    words = [w for w in sys.argv[1:] if not w.startswith("-")]
-    if len(words) not in (3, 4):
+    words = sys.argv[1:]
+    if len(words) not in (3, 4, 5):
         print(__doc__)
         return 2
     before, after = (records(open(w, "rb").read()) for w in words[:2])
-    random.seed(int(words[3]) if len(words) == 4 else 1)
+    random.seed(int(words[3]) if len(words) > 3 else 1)
     done = {r: d for (r, _), (d, _) in zip(before, after)}
 
     def act(r):
-        if "--untouched" in sys.argv:
-            return cases.untouched(r)
         cases.refuse(r)
         return done[r]
+
+    def wanted(b):
+        if len(words) == 5:
+            rust = subprocess.run([words[4], "blocks-done"], input=b, capture_output=True)
+            return rust.stdout, rust.stderr
+        out, line = cases.run(b, act)
+        return out, b"" if line == "done" else line.encode() + b"\n"
 
     starter = os.path.join(os.path.dirname(os.path.abspath(__file__)), "run")
     counts, wrong, passed = {}, 0, 0
     for n in range(int(words[2])):
         b = damage(cases.number(1) + b"".join(random.choice(before)[1] for _ in range(random.choice([0, 1, 2, 3, 8]))))
         try:
-            out, line = cases.run(b, act)
+            out, told = wanted(b)
         except KeyError:
             passed += 1
             continue
-        told = b"" if line == "done" else line.encode() + b"\n"
         got = subprocess.run([starter, "blocks"], input=b, capture_output=True)
         if (got.stdout, got.stderr) != (out, told):
             wrong += 1
-            print("differs:", b.hex()[:200], line, got.stderr)
-        counts[line.split()[-1]] = counts.get(line.split()[-1], 0) + 1
+            print("differs:", b.hex()[:200], told, got.stderr)
+        key = (told.decode().split() or ["done"])[-1]
+        counts[key] = counts.get(key, 0) + 1
     print(sum(counts.values()), "run,", wrong, "differ,", passed, "passed over;", counts)
     return 1 if wrong else 0
 
