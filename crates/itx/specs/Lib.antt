@@ -2,3 +2,4 @@
 pub mod Calls
 pub mod Av1
 pub mod Answers
+pub mod Known
