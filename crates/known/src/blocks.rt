@@ -96,13 +96,19 @@ fn tall(eob: i32) {
     plain(&mut [100u16; 64], 0, 8, &mut d, eob, 4, 16, 0, 8);
 }
 
-fn of_depth_10(eob: i32) {
-    first_of_4x4(131071, eob, 0, 10);
+// 4x4 of depth 10, with this pixel first and the others 100.
+fn first_pixel(first: i32, pixel: u16, eob: i32) {
     let mut c = [0i32; 16];
-    c[0] = -131072;
+    c[0] = first;
     let mut dst = [100u16; 16];
-    dst[0] = 2000;
+    dst[0] = pixel;
     plain(&mut dst, 0, 8, &mut c, eob, 4, 4, 0, 10);
+}
+
+fn of_depth_10(eob: i32) {
+    first_pixel(131071, 100, eob);
+    first_pixel(131071, 0, eob);
+    first_pixel(-131072, 2000, eob);
 }
 
 // A stray is neither used nor cleared by the shortcut, nor are coefficients past the block by either way.
