@@ -7,7 +7,7 @@ use Rattle.itx_1d.specs.Calls as Calls
 use Rattle.residual.specs.Blocks as Blocks
 use Rattle.pixels.specs.Adds as Adds
 use Rattle.itx.specs.Calls.{outcome}
-use Rattle.itx.specs.Known.{Case, Left, leaves, says, holds, All, cases}
+use Rattle.itx.specs.Known.{Case, Result, computed, expected, holds, All, cases}
 
 -- to unfold these is to unfold all that their lines name
 passing : Unit {0}
@@ -18,15 +18,16 @@ adding : Unit {0}
 unfolding Blocks.prescale Blocks.shortcut Adds.add-row Adds.add-rows outcome
 adding = tt
 
--- what all cases leave is what they say
-all-leave : map leaves cases ≡ map says cases
+-- what comes of all cases is what they say
+all-computed : map computed cases ≡ map expected cases
 unfolding passing adding
-all-leave = refl
+all-computed = refl
 
 -- two functions that are equal along a list are equal at each case of it
-along : (f g : Case → Left) (cs : List Case) → map f cs ≡ map g cs → All (λ c. f c ≡ g c) cs
+along : (f g : Case → Result) (cs : List Case) → map f cs ≡ map g cs → All (λ c. f c ≡ g c) cs
 along f g [] e = tt
 along f g (c ∷ cs) e = (cc, along f g cs (cc))
 
+-- those marked * in document 01
 pub known : All holds cases
-known = along leaves says cases all-leave
+known = along computed expected cases all-computed

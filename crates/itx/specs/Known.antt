@@ -11,7 +11,8 @@ use Rattle.itx_1d.specs.declared.Kind.{Kind}
 use Rattle.itx_1d.specs.declared.Kind.the-variants.{Dct, Identity, Wht}
 use Rattle.itx_1d.specs.Calls as Passes
 use Rattle.strided.specs.Planes.{lent}
-use Rattle.itx.specs.Calls.{Block, plain, Outcome, outcome}
+use Rattle.itx.specs.Calls.{plain, Outcome, outcome}
+use Rattle.itx.specs.Answers.{block}
 
 pub data Case : Type 0 where
   passes : Kind → Side → List ℤ → List ℤ → Bool → Case  -- a pass of this kind and length on these elements gives these, with this mark
@@ -19,41 +20,42 @@ pub data Case : Type 0 where
 
 -- ---- what it is for a case to hold
 
--- what a call leaves
-pub data Left : Type 0 where
-  of-pass : Passes.Outcome → Left
-  of-block : Outcome → Left
+abbrev pub zeros : ℕ → List ℤ
+zeros n = replicate n (pos 0)
 
--- a public pass at stride 1, with the ranges of depth 8; the WHT takes no range
+abbrev pub each : ℕ → ℕ → List ℕ
+each n v = replicate n v
+
+-- what a pass or a block comes to
+pub data Result : Type 0 where
+  of-pass : Passes.Outcome → Result
+  of-block : Outcome → Result
+
+-- a public pass at stride 1, with the range of depth 8; the WHT takes no range
 abbrev pub passed : Kind → Side → List ℤ → Passes.Outcome
 passed Dct n c = Passes.ranged Dct n c 1 (low 32768) (high 32768)
 passed Identity n c = Passes.ranged Identity n c 1 (low 32768) (high 32768)
 passed Wht n c = Passes.unranged c 1
 
--- a block of depth 8 whose coefficients but the first are 0, over its own pixels and no others, all 100
-abbrev pub block : ℕ → ℕ → ℕ → ℕ → Block
-block w h type c = record {
-  w = w;
-  h = h;
-  type = type;
-  depth = 8;
-  coefs = pos c ∷ replicate (w * h - 1) (pos 0);
-  plane = lent (replicate (w * h) 100) 0 (pos (2 * w));
-}
+-- a plain call at depth 8, with coefficients c, 0, 0, .., over the block's own pixels and no others, all 100
+abbrev pub added : ℕ → ℕ → ℕ → ℕ → ℕ → Outcome
+added w h type c eob =
+    outcome (plain (pos eob)) (block w h type 8 (pos c ∷ zeros (w * h - 1)) (lent (each (w * h) 100) 0 (pos (2 * w))))
 
--- what the call of a case leaves, by the definitions that the contracts cite
-abbrev pub leaves : Case → Left
-leaves (passes kind n xs ys mark) = of-pass (passed kind n xs)
-leaves (adds w h type c eob ps) = of-block (outcome (plain (pos eob)) (block w h type c))
+-- what comes of a case, by the definitions that the contracts cite
+abbrev pub computed : Case → Result
+computed (passes kind n xs ys mark) = of-pass (passed kind n xs)
+computed (adds w h type c eob ps) = of-block (added w h type c eob)
 
 -- what the case says: an acceptance, for a block with mark no and all coefficients 0
-abbrev pub says : Case → Left
-says (passes kind n xs ys mark) = of-pass (record { answer = Passes.acceptance mark; elements = ys })
-says (adds w h type c eob ps) = of-block (record { answer = Passes.acceptance false; pixels = ps; coefs = replicate (w * h) (pos 0) })
+abbrev pub expected : Case → Result
+expected (passes kind n xs ys mark) = of-pass (record { answer = Passes.acceptance mark; elements = ys })
+expected (adds w h type c eob ps) = of-block (record { answer = Passes.acceptance false; pixels = ps; coefs = zeros (w * h) })
 
 abbrev pub holds : Case → Type 0
-holds c = leaves c ≡ says c
+holds c = computed c ≡ expected c
 
+-- P holds of each case of a list
 abbrev pub All : (Case → Type 0) → List Case → Type 0
 All P [] = Unit {0}
 All P (c ∷ cs) = P c × All P cs
@@ -62,12 +64,6 @@ All P (c ∷ cs) = P c × All P cs
 
 abbrev pub neg : ℕ → ℤ
 neg n = negℤ (pos n)
-
-abbrev pub zeros : ℕ → List ℤ
-zeros n = replicate n (pos 0)
-
-abbrev pub each : ℕ → ℕ → List ℕ
-each n v = replicate n v
 
 abbrev pub column-0 : List ℕ
 column-0 = 104 ∷ each 3 100
