@@ -18,7 +18,7 @@ use Rattle.dct.specs.Fitting.{Ends, Small, sizes, fitting}
 use Rattle.dct.specs.Stages.{turns, joins, small, Turning, Joining, Joined, Ready, Through}
 use Rattle.dct.proofs.Fits.{keep-small, no-clip}
 
-run-append : {A : Type 0} (𝓐 : Alg A) (ss rs : List Step) (xs : List A) → run 𝓐 (ss ++ rs) xs ≡ run 𝓐 rs (run 𝓐 ss xs)
+pub run-append : {A : Type 0} (𝓐 : Alg A) (ss rs : List Step) (xs : List A) → run 𝓐 (ss ++ rs) xs ≡ run 𝓐 rs (run 𝓐 ss xs)
 run-append 𝓐 [] rs xs = refl
 run-append 𝓐 (s ∷ ss) rs xs = run-append 𝓐 ss rs (step 𝓐 s xs)
 
