@@ -41,7 +41,7 @@ enum Found {
     Nothing,
 }
 
-const REV: [usize; 32] = [
+pub const REV: [usize; 32] = [
     0,
     16,
     8,

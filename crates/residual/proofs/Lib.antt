@@ -7,3 +7,5 @@ pub mod Steps
 pub mod Small
 pub mod Whole
 pub mod Ends
+pub mod Laying
+pub mod Quick

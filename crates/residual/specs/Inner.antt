@@ -1,6 +1,6 @@
 -- What the inner functions ask and give: the public calls' definitions are in Calls.
 use mathlib.Core.Path.{_≡_}
-use mathlib.Core.Bool.{Bool}
+use mathlib.Core.Bool.{Bool, true, false}
 use mathlib.Core.List.{List}
 use Prim.Native.Nat.{ℕ, zero, suc, _+_, _*_, _≤_, _<_}
 use lib.IntN.{ℤ, pos, natAbs}
@@ -9,9 +9,9 @@ use Rattle.whole.specs.Numbers.{_>>_, round2, clip}
 use Rattle.whole.specs.Lists.{at, tab, any}
 use Rattle.av1.specs.Sides.{len, side}
 use Rattle.itx_1d.specs.declared.Kind.{Kind}
-use Rattle.itx_1d.specs.declared.Kind.the-variants.{Wht}
+use Rattle.itx_1d.specs.declared.Kind.the-variants.{Dct, Wht}
 use Rattle.itx_1d.specs.Passes.{Passed, pass}
-use Rattle.itx_1d.specs.Inner.{most, Lined, Limited}
+use Rattle.itx_1d.specs.Inner.{revs, source, most, Lined, Limited}
 use Rattle.bitdepth.specs.declared.Depth.{Depth}
 use Rattle.levels.specs.declared.Plan.{Plan}
 use Rattle.residual.specs.Blocks.{column, marked, if-wht, prescale, way}
@@ -78,6 +78,56 @@ pub record RowsAre (p : Plan) (m : ℕ) (c : List ℤ) (k : ℕ) (t : List ℤ) 
   pub elements : Holds (p .w) k (λ y x. at (row-made p m c y .values) x) t
   pub marked : mark ≡ any k (λ y. row-made p m c y .mark)
 
+-- a block of lanes for a DCT of n points: element i < k of each of w lines stands at its place in bit-reversed order
+pub record Laid (n w k : ℕ) (f : ℕ → ℕ → ℤ) (u : List ℤ) : Type 0 where
+  pub rows : (i l : ℕ) → i < k → l < w → at u (source n i * 32 + l) ≡ f i l
+  pub long : length u ≡ 1024
+
+-- the rows at once: what the loops ask
+pub record ColumnLoads (p : Plan) (c : List ℤ) (x r from : ℕ) (u : List ℤ) : Type 0 where
+  pub sized : Sized p
+  pub coefs : Coefs p c
+  pub x-in : x < p .w
+  pub some-rows : r ≤ p .h
+  pub room : from + r ≤ 1024
+  pub long : length u ≡ 1024
+
+pub record Loads (p : Plan) (rev : List ℕ) (c : List ℤ) (r : ℕ) (u : List ℤ) : Type 0 where
+  pub sized : Sized p
+  pub coefs : Coefs p c
+  pub table : rev ≡ revs
+  pub some-rows : r ≤ p .h
+  pub long : length u ≡ 1024
+
+pub record RowStores (u : List ℤ) (y from w : ℕ) (t : List ℤ) : Type 0 where
+  pub u-long : length u ≡ 1024
+  pub y-in : y < 32
+  pub narrow : w ≤ 32
+  pub room : from + w ≤ 1024
+  pub long : length t ≡ 1024
+
+pub record Stores (p : Plan) (u : List ℤ) (r : ℕ) (t : List ℤ) : Type 0 where
+  pub sized : Sized p
+  pub some-rows : r ≤ p .h
+  pub u-long : length u ≡ 1024
+  pub empty : (i : ℕ) → at t i ≡ pos 0
+  pub long : length t ≡ 1024
+
+-- the table of places and the block of lanes, which every pass may use
+pub record Lends (rev : List ℕ) (u : List ℤ) : Type 0 where
+  pub table : rev ≡ revs
+  pub u-long : length u ≡ 1024
+
+pub record RowsQuick (p : Plan) (rev : List ℕ) (c : List ℤ) (r : ℕ) (lo hi : ℤ) (t u : List ℤ) : Type 0 where
+  pub load : RowsLoad p c r lo hi t
+  pub is-dct : p .rows ≡ Dct
+  pub lends : Lends rev u
+
+-- what a quick form leaves: all is done, or nothing
+pub record Quickly (q : Bool) (Done : Type 0) (t u : List ℤ) : Type 0 where
+  pub done : q ≡ true → Done
+  pub same : q ≡ false → u ≡ t
+
 -- step 5: what a pass makes of column x of the block, what the passes ask, and what they leave after k columns
 abbrev pub column-made : Kind → ℕ → ℕ → ℕ → List ℤ → ℕ → Passed
 column-made kind m w h t x = pass kind (side h) m (tab h (λ y. at t (y * w + x)))
@@ -89,6 +139,7 @@ pub record Columned (kind : Kind) (m w h : ℕ) (t : List ℤ) (k : ℕ) (u : Li
 
 pub record ColumnsPass (kind : Kind) (w h : ℕ) (lo hi : ℤ) (t : List ℤ) : Type 0 where
   pub is-length : len (side h) ≡ h
+  pub narrow : w ≤ 32
   pub room : h * w ≤ 1024
   pub lined : Lined kind h
   pub limited : Limited kind lo hi
@@ -98,6 +149,23 @@ pub record ColumnsPass (kind : Kind) (w h : ℕ) (lo hi : ℤ) (t : List ℤ) : 
 pub record ColumnsAre (kind : Kind) (m w h : ℕ) (t : List ℤ) (k : ℕ) (u : List ℤ) (mark : Bool) : Type 0 where
   pub elements : Columned kind m w h t k u
   pub marked : mark ≡ any k (λ x. column-made kind m w h t x .mark)
+
+-- the columns at once: what the loops ask, and give
+pub record Lays (rev : List ℕ) (t : List ℤ) (w h : ℕ) (u : List ℤ) : Type 0 where
+  pub lends : Lends rev u
+  pub is-length : len (side h) ≡ h
+  pub narrow : w ≤ 32
+  pub t-long : length t ≡ 1024
+
+pub record Takes (u : List ℤ) (w h : ℕ) (t : List ℤ) : Type 0 where
+  pub u-long : length u ≡ 1024
+  pub narrow : w ≤ 32
+  pub low : h ≤ 32
+  pub long : length t ≡ 1024
+
+pub record Taken (u : List ℤ) (w k : ℕ) (t : List ℤ) : Type 0 where
+  pub rows : (y x : ℕ) → y < k → x < w → at t (y * w + x) ≡ at u (y * 32 + x)
+  pub long : length t ≡ 1024
 
 -- the whole: what it asks, and gives
 pub record Resolves (p : Plan) (c : List ℤ) (r : ℕ) (t : List ℤ) : Type 0 where

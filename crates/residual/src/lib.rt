@@ -1,5 +1,6 @@
 // Steps 1 to 5 of the two-dimensional transform, as src/itx.rs takes them: from coefficients to what is added to the pixels.
 ghost use mathlib.Core.Path.{_≡_};
+ghost use mathlib.Core.Bool as Bool;
 ghost use Prim.Native.Nat.{ℕ, _+_, _*_, _≤_, _<_};
 ghost use lib.IntN.{ℤ, natAbs};
 ghost use lib.ListN.{length};
@@ -11,7 +12,9 @@ use bitdepth::Depth;
 use bitdepth::Range;
 use intops::iclip;
 use itx_1d::Kind;
+use itx_1d::REV;
 use itx_1d::inv_1d;
+use lanes::dct;
 use levels::Plan;
 
 // Step 2, and the shift of a WHT.
@@ -106,8 +109,8 @@ fn round(t: &mut [i32], plan: Plan, n: usize, min: i32, max: i32)
     }
 }
 
-// Steps 1 to 3 on rows 0..r-1, as the crate's first loop; the scratch block is zero after them.
-fn rows(t: &mut [i32], plan: Plan, coeff: &[i32], r: usize, min: i32, max: i32) -> bool
+// Steps 1 to 3 on rows 0..r-1, one after the other, as the crate's first loop; the scratch block is zero after them.
+fn rows_by_line(t: &mut [i32], plan: Plan, coeff: &[i32], r: usize, min: i32, max: i32) -> bool
     requires { ⌜ Inner.RowsLoad plan (now coeff) r min max (now t) ⌝ }
     ensures { λ m. ⌜ Inner.RowsAre plan (natAbs min) (now (coeff .entry)) r (now (t .exit)) m ⌝ }
 {
@@ -122,11 +125,14 @@ fn rows(t: &mut [i32], plan: Plan, coeff: &[i32], r: usize, min: i32, max: i32) 
     mark
 }
 
-// Step 5.
-fn columns(t: &mut [i32], kind: Kind, w: usize, h: usize, min: i32, max: i32) -> bool
-    requires { ⌜ Inner.ColumnsPass kind w h min max (now t) ⌝ }
-    ensures { λ m. ⌜ Inner.ColumnsAre kind (natAbs min) w h (now (t .entry)) w (now (t .exit)) m ⌝ }
+// Step 5, one column after the other.
+fn columns_by_line(t: &mut [i32], plan: Plan, min: i32, max: i32) -> bool
+    requires { ⌜ Inner.ColumnsPass (plan .columns) (plan .w) (plan .h) min max (now t) ⌝ }
+    ensures { λ m. ⌜ Inner.ColumnsAre (plan .columns) (natAbs min) (plan .w) (plan .h) (now (t .entry)) (plan .w) (now (t .exit)) m ⌝ }
 {
+    let kind = plan.columns;
+    let w = plan.w;
+    let h = plan.h;
     let mut mark = false;
     for x in 0..w {
         let hit = inv_1d(kind, &mut t[x..], h, w, min, max);
@@ -135,18 +141,194 @@ fn columns(t: &mut [i32], kind: Kind, w: usize, h: usize, min: i32, max: i32) ->
     mark
 }
 
+// Steps 1 and 2 for element x of rows 0..r-1, which are neighbours among the coefficients: to the places from `from` on.
+fn load_column(u: &mut [i32; 1024], from: usize, plan: Plan, coeff: &[i32], x: usize, r: usize)
+    requires { ⌜ Inner.ColumnLoads plan (now coeff) x r from (now u) ⌝ }
+    ensures { λ _. ⌜ now (u .exit) ≡ Inner.fill (now (u .entry)) from (λ y. Inner.loaded plan (now (coeff .entry)) y x) r ⌝ }
+{
+    let rows = plan.rows;
+    let w = plan.w;
+    let h = plan.h;
+    for y in 0..r {
+        let v = coeff[y + x * h];
+        let e = enter(rows, w, h, v);
+        u[from + y] = e;
+    }
+}
+
+// Rows 0..r-1 as the lanes of a block, for a DCT.
+fn load(u: &mut [i32; 1024], rev: &[usize; 32], plan: Plan, coeff: &[i32], r: usize)
+    requires { ⌜ Inner.Loads plan (now rev) (now coeff) r (now u) ⌝ }
+    ensures { λ _. ⌜ Inner.Laid (plan .w) r (plan .w) (λ x y. Inner.loaded plan (now (coeff .entry)) y x) (now (u .exit)) ⌝ }
+{
+    let w = plan.w;
+    let m = 32 / w;
+    for x in 0..w {
+        let i = rev[x * m];
+        load_column(&mut *u, i * 32, plan, coeff, x, r);
+    }
+}
+
+// Row y of the block, which is lane y of u.
+fn store_row(t: &mut [i32], from: usize, u: &[i32; 1024], y: usize, w: usize)
+    requires { ⌜ Inner.RowStores (now u) y from w (now t) ⌝ }
+    ensures { λ _. ⌜ now (t .exit) ≡ Inner.fill (now (t .entry)) from (λ x. at (now (u .entry)) (x * 32 + y)) w ⌝ }
+{
+    for x in 0..w {
+        let v = u[x * 32 + y];
+        t[from + x] = v;
+    }
+}
+
+// The lanes of u as rows 0..r-1.
+fn store(t: &mut [i32], plan: Plan, u: &[i32; 1024], r: usize)
+    requires { ⌜ Inner.Stores plan (now u) r (now t) ⌝ }
+    ensures { λ _. ⌜ Inner.Holds (plan .w) r (λ y x. at (now (u .entry)) (x * 32 + y)) (now (t .exit)) ⌝ }
+{
+    let w = plan.w;
+    for y in 0..r {
+        store_row(&mut *t, y * w, u, y, w);
+    }
+}
+
+// Steps 1 to 3 on all rows at once. Where a clip would act nothing is done.
+fn quick_rows(
+    t: &mut [i32],
+    u: &mut [i32; 1024],
+    rev: &[usize; 32],
+    plan: Plan,
+    coeff: &[i32],
+    r: usize,
+    min: i32,
+    max: i32,
+) -> bool
+    requires { ⌜ Inner.RowsQuick plan (now rev) (now coeff) r min max (now t) (now u) ⌝ }
+    ensures { λ q. ⌜ Inner.Quickly q (Inner.RowsAre plan (natAbs min) (now (coeff .entry)) r (now (t .exit)) Bool.false) (now (t .entry)) (now (t .exit)) × (length (now (u .exit)) ≡ 1024) ⌝ }
+{
+    load(&mut *u, rev, plan, coeff, r);
+    let left = dct(&mut *u, r, plan.w, min, max);
+    if left < r {
+        return false;
+    }
+    store(t, plan, &*u, r);
+    true
+}
+
+// Steps 1 to 3 on rows 0..r-1.
+fn rows(
+    t: &mut [i32],
+    u: &mut [i32; 1024],
+    rev: &[usize; 32],
+    plan: Plan,
+    coeff: &[i32],
+    r: usize,
+    min: i32,
+    max: i32,
+) -> bool
+    requires { ⌜ Inner.RowsLoad plan (now coeff) r min max (now t) × Inner.Lends (now rev) (now u) ⌝ }
+    ensures { λ m. ⌜ Inner.RowsAre plan (natAbs min) (now (coeff .entry)) r (now (t .exit)) m × (length (now (u .exit)) ≡ 1024) ⌝ }
+{
+    let kind = plan.rows;
+    let Kind::Dct = kind else {
+        return rows_by_line(t, plan, coeff, r, min, max);
+    };
+    if quick_rows(&mut *t, u, rev, plan, coeff, r, min, max) {
+        return false;
+    }
+    rows_by_line(t, plan, coeff, r, min, max)
+}
+
+// n numbers of t from `j` on to the places of u from `i` on.
+fn copy(u: &mut [i32], i: usize, t: &[i32], j: usize, n: usize)
+    requires { ⌜ (i + n ≤ length (now u)) × (j + n ≤ length (now t)) ⌝ }
+    ensures { λ _. ⌜ now (u .exit) ≡ Inner.fill (now (u .entry)) i (λ x. at (now (t .entry)) (j + x)) n ⌝ }
+{
+    for x in 0..n {
+        let v = t[j + x];
+        u[i + x] = v;
+    }
+}
+
+// The columns of the block as the lanes of u, for a DCT.
+fn lay(u: &mut [i32; 1024], rev: &[usize; 32], t: &[i32], w: usize, h: usize)
+    requires { ⌜ Inner.Lays (now rev) (now t) w h (now u) ⌝ }
+    ensures { λ _. ⌜ Inner.Laid h w h (λ y x. at (now (t .entry)) (y * w + x)) (now (u .exit)) ⌝ }
+{
+    let m = 32 / h;
+    for y in 0..h {
+        let i = rev[y * m];
+        copy(&mut *u, i * 32, t, y * w, w);
+    }
+}
+
+// The lanes of u as the columns of the block.
+fn take(t: &mut [i32], u: &[i32; 1024], w: usize, h: usize)
+    requires { ⌜ Inner.Takes (now u) w h (now t) ⌝ }
+    ensures { λ _. ⌜ Inner.Taken (now (u .entry)) w h (now (t .exit)) ⌝ }
+{
+    for y in 0..h {
+        copy(&mut *t, y * w, u, y * 32, w);
+    }
+}
+
+// Step 5 on all columns at once. Where a clip would act nothing is done.
+fn quick_columns(
+    t: &mut [i32],
+    u: &mut [i32; 1024],
+    rev: &[usize; 32],
+    w: usize,
+    h: usize,
+    min: i32,
+    max: i32,
+) -> bool
+    requires { ⌜ Inner.ColumnsPass Kind.Dct w h min max (now t) × Inner.Lends (now rev) (now u) ⌝ }
+    ensures { λ q. ⌜ Inner.Quickly q (Inner.ColumnsAre Kind.Dct (natAbs min) w h (now (t .entry)) w (now (t .exit)) Bool.false) (now (t .entry)) (now (t .exit)) ⌝ }
+{
+    lay(&mut *u, rev, &*t, w, h);
+    let left = dct(&mut *u, w, h, min, max);
+    if left < w {
+        return false;
+    }
+    take(t, &*u, w, h);
+    true
+}
+
+// Step 5.
+fn columns(
+    t: &mut [i32],
+    u: &mut [i32; 1024],
+    rev: &[usize; 32],
+    plan: Plan,
+    min: i32,
+    max: i32,
+) -> bool
+    requires { ⌜ Inner.ColumnsPass (plan .columns) (plan .w) (plan .h) min max (now t) × Inner.Lends (now rev) (now u) ⌝ }
+    ensures { λ m. ⌜ Inner.ColumnsAre (plan .columns) (natAbs min) (plan .w) (plan .h) (now (t .entry)) (plan .w) (now (t .exit)) m ⌝ }
+{
+    let kind = plan.columns;
+    let w = plan.w;
+    let h = plan.h;
+    let Kind::Dct = kind else {
+        return columns_by_line(t, plan, min, max);
+    };
+    if quick_columns(&mut *t, u, rev, w, h, min, max) {
+        return false;
+    }
+    columns_by_line(t, plan, min, max)
+}
+
 // Steps 1 to 5 with r live rows, on a scratch block of zeros.
 pub fn resolve(t: &mut [i32], plan: Plan, depth: Depth, coeff: &[i32], r: usize) -> bool
     requires { ⌜ Inner.Resolves plan (now coeff) r (now t) ⌝ }
     ensures { λ m. ⌜ Inner.Resolved plan depth (now (coeff .entry)) r (now (t .exit)) m ⌝ }
 {
     let w = plan.w;
-    let h = plan.h;
-    let kind = plan.columns;
+    let rev = REV;
+    let mut u = [0i32; 1024];
     let Range { lo, hi } = depth.row_range();
-    let along = rows(&mut *t, plan, coeff, r, lo, hi);
+    let along = rows(&mut *t, &mut u, &rev, plan, coeff, r, lo, hi);
     let Range { lo: min, hi: max } = depth.column_range();
     round(&mut *t, plan, r * w, min, max);
-    let down = columns(&mut *t, kind, w, h, min, max);
+    let down = columns(&mut *t, &mut u, &rev, plan, min, max);
     along | down
 }

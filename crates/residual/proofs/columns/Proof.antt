@@ -1,87 +1,79 @@
 -- `residual::columns` meets its contract.
-use mathlib.Core.Path.{_≡_, refl, sym, ap, _∙_, subst}
-use mathlib.Core.Bool.{Bool, _||_}
-use Prim.Native.Nat.{ℕ, _≤_, _<_, _*_, _-_}
-use native.Mathlib.Nat.{le-refl}
-use native.Mathlib.Numerals.{add-one}
-use native.Mathlib.Omega.{arith}
+use mathlib.Core.Path.{_≡_, subst, subst⁻¹}
+use mathlib.Core.Bool.{Bool, false}
+use mathlib.Core.List.{List}
+use Prim.Native.Nat.{ℕ}
 use lib.IntN.{ℤ, natAbs}
 use mir.Syntax.{w32}
-use mir.Val.{toZ, ofZ}
+use mir.Val.{SFits, toZ, ofZ}
 use mir.ValLaws.{toZ-ofZ}
-use Rattle.whole.specs.Lists.{any}
+use borrow.Author.Needs.{needs}
 use Rattle.whole.proofs.Held.{to2}
-use Rattle.itx_1d.specs.Inner.{most, Limited}
-use Rattle.itx_1d.proofs.Strides.{not-0}
-use Rattle.whole.proofs.Counts.{any-snoc}
-use Rattle.residual.specs.Inner.{column-made, ColumnsAre}
-use Rattle.residual.proofs.Places.{by-row}
-use Rattle.residual.proofs.Steps.{column-passable, column-more, column-mark}
+use Rattle.itx_1d.specs.declared.Kind.{Kind}
+use Rattle.itx_1d.specs.declared.Kind.the-variants.{Dct}
+use Rattle.residual.specs.Inner.{ColumnsPass, ColumnsAre}
 use Rattle.residual.proofs.columns.Statement.{statement}
 use Rattle.residual.proofs.columns.Tie as tie
 
-abbrev Inv-loop : tie.InvT-loop
-Inv-loop t₀ kind w h min max mark₀ x₀ t mark x = ColumnsAre kind (natAbs (toZ w32 min)) w h t₀ x t mark × (x ≤ w)
+-- the low end as it is read back
+held : {k : Kind} {lo : ℤ} {w h x : ℕ} {t u : List ℤ} {m : Bool} → SFits w32 lo → ColumnsAre k (natAbs (toZ w32 (ofZ w32 lo))) w h t x u m → ColumnsAre k (natAbs lo) w h t x u m
+held {k} {lo} {w} {h} {x} {t} {u} {m} f g = subst (λ (z : ℤ). ColumnsAre k (natAbs z) w h t x u m) (toZ-ofZ w32 lo f) g
 
-abbrev μ-loop : tie.MeasureT-loop
-μ-loop t₀ kind w h min max mark₀ x₀ t mark x = w - x
-
-loop-holds : tie.Need-loop-holds Inv-loop μ-loop
-loop-holds c = (record { elements = record { passed = λ y x l g. (let f : ⊥ = omega arith in absurd f); waiting = λ y x l k g. refl; long = c .pre .long }; marked = refl }, omega arith)
-
-inv-1d-requires : tie.Need-inv-1d-requires Inv-loop μ-loop
-inv-1d-requires c κs =
-    let i = c .before in
-    let h = i .before .loop in
-    let s = i .before .before in
-    record {
-      lined = s .pre .lined;
-      limited = to2 (Limited (s .args .kind)) (s .fits .min) (s .fits .max) (s .pre .limited);
-      able = column-passable (s .args .kind) (natAbs (toZ w32 (ofZ w32 (s .args .min)))) (s .args .w) (s .args .h) (h .x) (s .args .t .now) (h .t) (s .pre .is-length) (i .loop-test .taken) (s .pre .room) (h .inv .0 .elements) (most (s .args .kind)) (s .pre .small);
-    }
-
-loop-again : tie.Need-loop-again Inv-loop μ-loop
-loop-again c =
-    let d = c .before in
-    let i = d .before .before in
-    let h = i .before .loop in
-    let s = i .before .before in
-    let m = natAbs (toZ w32 (ofZ w32 (s .args .min))) in
-    let f : ℕ → Bool = λ x. column-made (s .args .kind) m (s .args .w) (s .args .h) (s .args .t .now) x .mark in
-    let mark = column-mark (s .args .kind) m (s .args .w) (s .args .h) (h .x) (s .args .t .now) (h .t) (s .pre .is-length) (i .loop-test .taken) (s .pre .room) (h .inv .0 .elements) (d .inv-1d .last .1 .0) (d .inv-1d .result) (d .inv-1d .ensures) in (
-      record {
-        elements = column-more (s .args .kind) m (s .args .w) (s .args .h) (h .x) (s .args .t .now) (h .t) (s .pre .is-length) (i .loop-test .taken) (s .pre .room) (h .inv .0 .elements) (d .inv-1d .last .1 .0) (d .inv-1d .result) (d .inv-1d .ensures);
-        marked = (λ k. h .inv .0 .marked k || mark k) ∙ sym (any-snoc (h .x) f) ∙ ap (λ (k : ℕ). any k f) (sym (add-one (h .x)));
-      },
-      omega arith,
+quick-columns-requires : tie.Need-quick-columns-requires
+quick-columns-requires c κs =
+    let e = c .before .before in
+    let s = e .before .before in
+    let p = s .args .plan in (
+      to2 (λ lo hi. ColumnsPass Dct (p .w) (p .h) lo hi (s .args .t .now)) (s .fits .min) (s .fits .max)
+          (subst (λ (k : Kind). ColumnsPass k (p .w) (p .h) (s .args .min) (s .args .max) (s .args .t .now)) (e .enum-told .given .1) (s .pre .0)),
+      s .pre .1,
     )
 
-returns : tie.Need-returns Inv-loop μ-loop
-returns c =
-    let h = c .before .loop in
-    let s = c .before .before in
-    let all : h .x ≡ s .args .w = omega arith in
-    subst (λ (z : ℤ). ColumnsAre (s .args .kind) (natAbs z) (s .args .w) (s .args .h) (s .args .t .now) (s .args .w) (h .t) (h .mark)) (toZ-ofZ w32 (s .args .min) (s .fits .min))
-    (subst (λ (k : ℕ). ColumnsAre (s .args .kind) (natAbs (toZ w32 (ofZ w32 (s .args .min)))) (s .args .w) (s .args .h) (s .args .t .now) k (h .t) (h .mark)) all (h .inv .0))
+-- after the quick form
+module _ (c : tie.After-t2) where
+  abbrev s : tie.Start
+  s = c .before .before .before .before .before .before
 
--- column x is in the slice
-here : (c : tie.In-loop Inv-loop μ-loop) → c .before .loop .x < 1024
-here c = let s = c .before .before in omega (arith, by-row (s .args .w) (s .args .h) 0 (c .before .loop .x) (not-0 (s .args .h) (s .pre .is-length)) (c .loop-test .taken), s .pre .room)
+  abbrev kind-is : s .args .plan .columns ≡ Dct
+  kind-is = c .before .before .before .before .enum-told .given .1
+
+still : tie.Need-columns-by-line-requires-2
+still c κs =
+    let q = c .before .before in
+    let z = s q in
+    let p = z .args .plan in
+    let same = q .before .quick-columns .ensures .same (c .before .if1 .left) in
+    to2 (λ lo hi. ColumnsPass (p .columns) (p .w) (p .h) lo hi (q .before .quick-columns .last .0)) (z .fits .min) (z .fits .max)
+    (subst⁻¹ (ColumnsPass (p .columns) (p .w) (p .h) (z .args .min) (z .args .max)) same (z .pre .0))
+
+quickly : tie.Need-returns-2
+quickly c =
+    let q = c .before in
+    let z = s q in
+    let p = z .args .plan in
+    subst⁻¹ (λ (k : Kind). ColumnsAre k (natAbs (z .args .min)) (p .w) (p .h) (z .args .t .now) (p .w) (q .before .quick-columns .last .0) false) (kind-is q)
+    (held (z .fits .min) (q .before .quick-columns .ensures .done (c .if1 .taken)))
+
+by-line : tie.Need-returns-3
+by-line c =
+    let q = c .before .before .before .before in
+    let z = s q in
+    let p = z .args .plan in
+    let same = q .before .quick-columns .ensures .same (c .before .before .before .if1 .left) in
+    subst (λ (t : List ℤ). ColumnsAre (p .columns) (natAbs (z .args .min)) (p .w) (p .h) t (p .w) (c .before .columns-by-line2 .last .0) (c .before .columns-by-line2 .result)) same
+    (held (z .fits .min) (c .before .columns-by-line2 .ensures))
 
 pub columns-spec : {M : Type 1} → statement M
 columns-spec =
     tie.close
     (tie.spec
-    Inv-loop
-    μ-loop
-    loop-holds
-    (λ c. omega (arith, here c))
-    (λ c. omega (arith, here c, c .before .loop .inv .0 .elements .long))
-    (λ c. omega (arith, here c, c .before .loop .inv .0 .elements .long))
-    (λ c. le-refl _)
-    inv-1d-requires
-    (λ c. omega arith)
-    (λ c. omega arith)
-    loop-again
-    (λ c. c .before .loop .inv .0 .elements .long ∙ sym (c .before .before .pre .long))
-    returns)
+    (λ c. search needs)
+    (λ c κs. search needs)
+    (λ c. search needs)
+    (λ c. held (c .before .before .before .before .fits .min) (c .before .columns-by-line .ensures))
+    quick-columns-requires
+    (λ c. search needs)
+    quickly
+    still
+    (λ c. search needs)
+    by-line)

@@ -14,31 +14,33 @@ use Rattle.bitdepth.specs.Depths.{row-range, column-range}
 use Rattle.residual.specs.Inner.{fill, rounding, RowsAre, ColumnsAre}
 use Rattle.residual.proofs.Ends.{row-reach, column-reach, limited, lo-is, hi-is, as-held, m-is}
 use Rattle.residual.proofs.Fills.{fill-length}
-use Rattle.residual.proofs.Places.{area}
+use Rattle.residual.proofs.Places.{area, w-small}
 use Rattle.residual.proofs.Whole.{rowed-small, for-columns, resolved}
 use Rattle.residual.proofs.resolve.Statement.{statement}
 use Rattle.residual.proofs.resolve.Tie as tie
 
 rows-requires : tie.Need-rows-requires
 rows-requires c κs =
-    let g = c .before .before .before in
-    let s = g .before in
-    record {
-      sized = s .pre .sized;
-      coefs = s .pre .coefs;
-      some-rows = s .pre .some-rows;
-      limited = as-held (row-reach (s .args .depth)) (g .row-range .ensures) (Limited (s .args .plan .rows)) (limited (row-reach (s .args .depth)) (s .args .plan .rows));
-      empty = s .pre .empty;
-      long = s .pre .long;
-    }
+    let g = c .before .before .before .before .before in
+    let s = g .before in (
+      record {
+        sized = s .pre .sized;
+        coefs = s .pre .coefs;
+        some-rows = s .pre .some-rows;
+        limited = as-held (row-reach (s .args .depth)) (g .row-range .ensures) (Limited (s .args .plan .rows)) (limited (row-reach (s .args .depth)) (s .args .plan .rows));
+        empty = s .pre .empty;
+        long = s .pre .long;
+      },
+      record { table = refl; u-long = refl },
+    )
 
 -- after the rows
 module _ (c : tie.After-rows) where
   abbrev start : tie.Start
-  start = c .before .before .before .before .before
+  start = c .before .before .before .before .before .before .before
 
   rowed : RowsAre (start .args .plan) (row-range (start .args .depth)) (start .args .coeff .now) (start .args .r) (c .rows .last .0) (c .rows .result)
-  rowed = subst (λ (m : ℕ). RowsAre (start .args .plan) m (start .args .coeff .now) (start .args .r) (c .rows .last .0) (c .rows .result)) (m-is (row-reach (start .args .depth)) (c .before .before .before .before .row-range .ensures)) (c .rows .ensures)
+  rowed = subst (λ (m : ℕ). RowsAre (start .args .plan) m (start .args .coeff .now) (start .args .r) (c .rows .last .0) (c .rows .result)) (m-is (row-reach (start .args .depth)) (c .before .before .before .before .before .before .row-range .ensures)) (c .rows .ensures .0)
 
   few : start .args .r * start .args .plan .w ≤ 1024
   few = le-trans (mul-le-mul-right {m = start .args .r} {n = start .args .plan .h} (start .args .plan .w) (start .pre .some-rows)) (area (start .args .plan) (start .pre .sized))
@@ -73,23 +75,26 @@ module _ (c : tie.After-round) where
 
 columns-requires : tie.Need-columns-requires
 columns-requires c κs =
-    let b = c .before .before in
+    let b = c .before .before .before .before in
     let a = along b in
     let q = s b in
-    let e = b .before .before .before .before .column-range .ensures in
-    record {
-      is-length = q .pre .sized .height;
-      room = area (q .args .plan) (q .pre .sized);
-      lined = q .pre .sized .column-length;
-      limited = as-held (column-reach (q .args .depth)) e (Limited (q .args .plan .columns)) (limited (column-reach (q .args .depth)) (q .args .plan .columns));
-      small = for-columns (q .args .plan) (q .args .depth) (q .args .coeff .now) (q .args .r) (a .rows .last .0) (b .round .last .0) [] (a .rows .result) (a .rows .result) (q .pre .sized) (q .pre .coefs) (q .pre .some-rows) (rowed a) (rounded b);
-      long = ap length (b .round .ensures) ∙ fill-length _ _ _ (q .args .r * q .args .plan .w) ∙ rowed a .elements .long;
-    }
+    let e = b .before .before .before .before .column-range .ensures in (
+      record {
+        narrow = w-small (q .args .plan) (q .pre .sized);
+        is-length = q .pre .sized .height;
+        room = area (q .args .plan) (q .pre .sized);
+        lined = q .pre .sized .column-length;
+        limited = as-held (column-reach (q .args .depth)) e (Limited (q .args .plan .columns)) (limited (column-reach (q .args .depth)) (q .args .plan .columns));
+        small = for-columns (q .args .plan) (q .args .depth) (q .args .coeff .now) (q .args .r) (a .rows .last .0) (b .round .last .0) [] (a .rows .result) (a .rows .result) (q .pre .sized) (q .pre .coefs) (q .pre .some-rows) (rowed a) (rounded b);
+        long = ap length (b .round .ensures) ∙ fill-length _ _ _ (q .args .r * q .args .plan .w) ∙ rowed a .elements .long;
+      },
+      record { table = refl; u-long = a .rows .ensures .1 },
+    )
 
 returns : tie.Need-returns
 returns c =
     let d = c .before in
-    let b = d .before .before .before in
+    let b = d .before .before .before .before .before in
     let a = along b in
     let q = s b in
     let p = q .args .plan in

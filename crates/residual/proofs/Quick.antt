@@ -1,0 +1,121 @@
+-- A DCT on the lanes of a block is document 01's pass on each of its lines.
+use mathlib.Core.Path.{_≡_, refl, sym, ap, _∙_, subst, subst⁻¹}
+use mathlib.Core.Bool.{Bool, true, false}
+use mathlib.Core.List.{List, _++_}
+use Prim.Native.Nat.{ℕ, _+_, _*_, _-_, _≤_, _<_}
+use native.Mathlib.Omega.{arith}
+use lib.Dec.{T}
+use lib.IntN.{ℤ, pos, natAbs}
+use lib.ListN.{length, replicate, List·getD-append}
+use Rattle.whole.specs.Lists.{at, tab}
+use Rattle.whole.proofs.Clips.{or-false}
+use Rattle.whole.proofs.Counts.{tab-at, tab-ext, tab-length}
+use Rattle.av1.specs.Sides.{Side, of4, of8, of16, of32, len, bits, side}
+use Rattle.av1.specs.Network.{Step, run}
+use Rattle.av1.specs.Values.{clipped}
+use Rattle.dct.specs.Halves.{before, last, hits}
+use Rattle.dct.specs.Stages.{Through}
+use Rattle.lanes.specs.Lanes.{lane}
+use Rattle.lanes.specs.Stages.{Left, Ready}
+use Rattle.lanes.proofs.Lanes.{lane-at}
+use Rattle.lanes.proofs.Chain.{parted, hits-append}
+use Rattle.lanes.proofs.Tail.{below, run-length, run-front, hits-front}
+use Rattle.itx_1d.specs.declared.Kind.the-variants.{Dct}
+use Rattle.itx_1d.specs.Passes.{pass}
+use Rattle.itx_1d.specs.Calls.{taken, put}
+use Rattle.itx_1d.specs.Inner.{source, gathered, Ranged, PassIs}
+use Rattle.itx_1d.proofs.Strides.{of-length, source-at, put-at, at-most-32}
+use Rattle.itx_1d.proofs.Through.{dct-is, ends-of}
+use Rattle.residual.specs.Inner.{Laid, Quickly}
+use Rattle.residual.proofs.Laying.{back}
+
+abbrev pub halves : ℕ → List Step
+halves n = before (bits (side n) - 1) ++ last (bits (side n) - 1)
+
+own-places : (k : Side) → T (below (len k) (halves (len k)))
+own-places of4 = tt
+own-places of8 = tt
+own-places of16 = tt
+own-places of32 = tt
+
+module _ {n w : ℕ} {f : ℕ → ℕ → ℤ} {u : List ℤ} (e : len (side n) ≡ n) (laid : Laid n w n f u) where
+  -- the element in row j
+  slot-is : (l j : ℕ) → l < w → j < n → at u (j * 32 + l) ≡ f (source n j) l
+  slot-is l j h g = ap (λ (i : ℕ). at u (i * 32 + l)) (sym (back n e j g)) ∙ laid .rows (source n j) l (source-at n e j g .below) h
+
+  pub ready : {lo hi : ℤ} → Ranged lo hi → w ≤ 32 → ((i l : ℕ) → i < n → l < w → natAbs (f i l) ≤ 524288) → Ready (len (side n)) w u lo hi
+  ready g narrow small = record {
+    long = laid .long;
+    width = narrow;
+    inside = λ i l p q. (let h : i < n = subst (λ (j : ℕ). i < j) e p in subst⁻¹ (λ (z : ℤ). natAbs z ≤ 524288) (slot-is l i q h) (small (source n i) l (source-at n e i h .below) q));
+    ends = ends-of g;
+  }
+
+  module _ {lo hi : ℤ} {v : List ℤ} (g : Ranged lo hi) (left : Left (halves n) lo hi w u v w) (l : ℕ) (l-in : l < w) where
+    abbrev xs : List ℤ
+    xs = tab n (λ i. f i l)
+
+    abbrev front : List ℤ
+    front = tab n (λ j. at xs (source n j * 1))
+
+    front-length : length front ≡ n
+    front-length = tab-length n _
+
+    ours : T (below n (halves n))
+    ours = of-length (λ k. T (below k (halves k))) own-places n e
+
+    abbrev rest : List ℤ
+    rest = tab (32 - n) (λ i. at u ((n + i) * 32 + l))
+
+    lane-is : lane u l ≡ front ++ rest
+    lane-is =
+        subst (λ (j : ℕ). lane u l ≡ tab j (λ i. at u (i * 32 + l)) ++ tab (32 - j) (λ i. at u ((j + i) * 32 + l))) e (parted (side n) u l)
+        ∙ ap (λ (ys : List ℤ). ys ++ rest)
+        (tab-ext n _ _ (λ j h.
+        let s = source-at n e j h .below in
+        let one : source n j ≡ source n j * 1 = omega arith in
+        slot-is l j l-in h ∙ sym (tab-at n (λ i. f i l) (pos 0) (source n j) s) ∙ ap (at xs) one))
+
+    through : Through (bits (side n) - 1) lo hi (gathered xs 1 n) (run (clipped lo hi) (halves n) (gathered xs 1 n)) false
+    through =
+        let quiet = sym (hits-front lo hi (halves n) n front (replicate (32 - n) (pos 0)) front-length ours ∙ sym (hits-front lo hi (halves n) n front rest front-length ours) ∙ ap (hits lo hi (halves n)) (sym lane-is) ∙ left .quiet l l-in) in
+        record { elements = refl; mark = quiet-last (sym quiet) }
+      where
+        quiet-last : hits lo hi (halves n) (gathered xs 1 n) ≡ false → false ≡ hits lo hi (last (bits (side n) - 1)) (run (clipped lo hi) (before (bits (side n) - 1)) (gathered xs 1 n))
+        quiet-last q = sym (or-false (hits lo hi (before (bits (side n) - 1)) (gathered xs 1 n)) _ (sym (hits-append lo hi (before (bits (side n) - 1)) (last (bits (side n) - 1)) (gathered xs 1 n)) ∙ q) .1)
+
+    passed : PassIs Dct n 1 (natAbs lo) xs (put xs 1 (run (clipped lo hi) (halves n) (gathered xs 1 n)) n) false
+    passed = dct-is xs 1 n g e refl through
+
+    taken-is : taken xs 1 n ≡ xs
+    taken-is = tab-ext n _ _ (λ i h. let one : i * 1 ≡ i = omega arith in ap (at xs) one ∙ tab-at n (λ i. f i l) (pos 0) i h)
+
+    pub unmarked : pass Dct (side n) (natAbs lo) xs .mark ≡ false
+    unmarked = ap (λ (ys : List ℤ). pass Dct (side n) (natAbs lo) ys .mark) (sym taken-is) ∙ sym (passed .mark)
+
+    pub value : (y : ℕ) → y < n → at v (y * 32 + l) ≡ at (pass Dct (side n) (natAbs lo) xs .values) y
+    value y h =
+        let y-in : y < 32 = omega (arith, at-most-32 n e) in
+        let one : y ≡ y * 1 = omega arith in
+        let reach : (j : ℕ) → j < n → j * 1 < length xs = λ j g. omega (arith, tab-length n (λ i. f i l)) in
+        let out = run (clipped lo hi) (halves n) front in
+        let out-in : y < length out = omega (arith, run-length (clipped lo hi) (halves n) front, front-length) in
+        sym (lane-at v l y y-in)
+        ∙ ap (λ (ys : List ℤ). at ys y) (left .elements l l-in ∙ ap (run (clipped lo hi) (halves n)) lane-is ∙ run-front (clipped lo hi) (halves n) n front rest front-length ours)
+        ∙ List·getD-append out rest (pos 0) y out-in
+        ∙ sym (ap (λ (ys : List ℤ). at ys y) (run-front (clipped lo hi) (halves n) n front (replicate (32 - n) (pos 0)) front-length ours) ∙ List·getD-append out (replicate (32 - n) (pos 0)) (pos 0) y out-in)
+        ∙ sym (put-at xs 1 (run (clipped lo hi) (halves n) (gathered xs 1 n)) (omega arith) n y h reach)
+        ∙ ap (λ (ys : List ℤ). at ys (y * 1)) (passed .elements)
+        ∙ put-at xs 1 (pass Dct (side n) (natAbs lo) (taken xs 1 n) .values) (omega arith) n y h reach
+        ∙ ap (λ (ys : List ℤ). at (pass Dct (side n) (natAbs lo) ys .values) y) taken-is
+
+-- none was given up
+pub all-left : {ss : List Step} {lo hi : ℤ} {w n : ℕ} {t u : List ℤ} → Left ss lo hi w t u n → w ≤ n → Left ss lo hi w t u w
+all-left {ss} {lo} {hi} {w} {n} {t} {u} h g = let e : n ≡ w = omega (arith, h .fewer) in subst (λ (k : ℕ). Left ss lo hi w t u k) e h
+
+-- the two answers of a quick form
+pub gave-up : {D : Type 0} {t : List ℤ} → Quickly false D t t
+gave-up = record { done = λ e. (let z : _≡_ {A = ℕ} 0 1 = cc in let x : ⊥ = omega arith in absurd x); same = λ e. refl }
+
+pub succeeded : {D : Type 0} {t u : List ℤ} → D → Quickly true D t u
+succeeded d = record { done = λ e. d; same = λ e. (let z : _≡_ {A = ℕ} 0 1 = cc in let x : ⊥ = omega arith in absurd x) }

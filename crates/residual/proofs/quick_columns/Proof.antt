@@ -1,0 +1,58 @@
+-- `residual::quick_columns` meets its contract.
+use mathlib.Core.Path.{_≡_, sym, ap, _∙_, subst}
+use mathlib.Core.Bool.{Bool, false}
+use mathlib.Core.List.{List}
+use Prim.Native.Nat.{ℕ, _+_, _*_, _≤_, _<_}
+use native.Mathlib.Omega.{arith}
+use lib.IntN.{ℤ, natAbs}
+use borrow.Author.Needs.{needs}
+use Rattle.whole.specs.Lists.{at}
+use Rattle.whole.proofs.Counts.{any-none}
+use Rattle.whole.proofs.Held.{to2}
+use Rattle.av1.specs.Sides.{len, side}
+use Rattle.lanes.specs.Stages.{Ready}
+use Rattle.lanes.proofs.Chain.{held}
+use Rattle.itx_1d.proofs.Strides.{at-most-32}
+use Rattle.residual.specs.Inner.{ColumnsAre}
+use Rattle.residual.proofs.Quick.{ready, value, unmarked, all-left, gave-up, succeeded}
+use Rattle.residual.proofs.quick_columns.Statement.{statement}
+use Rattle.residual.proofs.quick_columns.Tie as tie
+
+dct-requires : tie.Need-dct-requires
+dct-requires c κs =
+    let e = c .before in
+    let s = e .before .before .before in
+    to2 (Ready (len (side (s .args .h))) (s .args .w) (e .lay .last .0)) (s .fits .min) (s .fits .max)
+    (ready (s .pre .0 .is-length) (e .lay .ensures) (s .pre .0 .limited) (s .pre .0 .narrow) (λ y x h g. s .pre .0 .small (y * s .args .w + x)))
+
+returns-2 : tie.Need-returns-2
+returns-2 c =
+    let d = c .before .before .before .before .before in
+    let e = d .before .before in
+    let s = e .before .before .before in
+    let all = all-left (held (s .fits .min) (s .fits .max) (d .dct .ensures)) (omega (arith, c .before .before .before .before .if1 .left)) in
+    let taken = c .before .take .ensures in
+    succeeded
+    (record {
+      elements = record {
+        passed = λ y x h g. taken .rows y x h g ∙ value (s .pre .0 .is-length) (e .lay .ensures) (s .pre .0 .limited) all x g y h;
+        waiting = λ y x h k g. (let f : ⊥ = omega arith in absurd f);
+        long = taken .long;
+      };
+      marked = sym (any-none (s .args .w) _ (λ x h. unmarked (s .pre .0 .is-length) (e .lay .ensures) (s .pre .0 .limited) all x h));
+    })
+
+pub quick-columns-spec : {M : Type 1} → statement M
+quick-columns-spec =
+    tie.close
+    (tie.spec
+    (λ c κs. search needs)
+    dct-requires
+    (λ c. search needs)
+    (λ c. gave-up)
+    (λ c κs.
+    let d = c .before .before .before in
+    let s = d .before .before .before .before .before in
+    record { u-long = d .dct .ensures .long; narrow = s .pre .0 .narrow; low = at-most-32 (s .args .h) (s .pre .0 .is-length); long = s .pre .0 .long })
+    (λ c. search needs)
+    returns-2)
