@@ -1,12 +1,13 @@
 // Searches over the coefficients of a block, which stand column by column, and step 7.
 ghost use mathlib.Core.Path.{_≡_};
+ghost use mathlib.Core.Bool as Bool;
 ghost use mathlib.Core.List.{_++_};
 ghost use Prim.Native.Nat.{ℕ, _*_, _≤_, _<_};
 ghost use lib.IntN.{pos};
 ghost use lib.ListN.{length, replicate, drop};
 ghost use Rattle.whole.specs.Numbers as Numbers;
-ghost use Rattle.whole.specs.Lists.{at, first};
-ghost use Rattle.coefs.specs.Coefs.{found, in-dead-row, Covers};
+ghost use Rattle.whole.specs.Lists.{at, any, first};
+ghost use Rattle.coefs.specs.Coefs.{found, in-dead-row, Zeros, ZeroRows, Covers};
 use intops::outside;
 
 pub enum Found {
@@ -14,8 +15,20 @@ pub enum Found {
     Nothing,
 }
 
-// Number 9: the first coefficient outside the row range.
-pub fn first_outside(c: &[i32], w: usize, h: usize, min: i32, max: i32) -> Found
+// Whether one of the first n coefficients lies outside the range.
+fn any_outside(c: &[i32], n: usize, min: i32, max: i32) -> bool
+    requires { ⌜ n ≤ length (now c) ⌝ }
+    ensures { λ r. ⌜ r ≡ any n (λ i. Numbers.outside (at (now (c .entry)) i) min max) ⌝ }
+{
+    let mut hit = false;
+    for i in 0..n {
+        let v = c[i];
+        hit = hit | outside(v, min, max);
+    }
+    hit
+}
+
+fn search_outside(c: &[i32], w: usize, h: usize, min: i32, max: i32) -> Found
     requires { ⌜ w * h ≤ length (now c) ⌝ }
     ensures { λ r. ⌜ found r ≡ first (w * h) (λ i. Numbers.outside (at (now (c .entry)) i) min max) ⌝ }
 {
@@ -33,8 +46,45 @@ pub fn first_outside(c: &[i32], w: usize, h: usize, min: i32, max: i32) -> Found
     place
 }
 
-// Number 10: the first nonzero coefficient in a row r or later.
-pub fn first_stray(c: &[i32], w: usize, h: usize, r: usize) -> Found
+// Number 9: the first coefficient outside the row range. Most blocks have none, and to know that takes no search.
+pub fn first_outside(c: &[i32], w: usize, h: usize, min: i32, max: i32) -> Found
+    requires { ⌜ w * h ≤ length (now c) ⌝ }
+    ensures { λ r. ⌜ found r ≡ first (w * h) (λ i. Numbers.outside (at (now (c .entry)) i) min max) ⌝ }
+{
+    if any_outside(c, w * h, min, max) {
+        return search_outside(c, w, h, min, max);
+    }
+    Found::Nothing
+}
+
+// Whether a coefficient from place `from` to before `to` is not zero.
+fn any_nonzero(c: &[i32], from: usize, to: usize) -> bool
+    requires { ⌜ to ≤ length (now c) ⌝ }
+    ensures { λ r. ⌜ (r ≡ Bool.false → Zeros (now (c .entry)) from to) ⌝ }
+{
+    let mut hit = false;
+    for i in from..to {
+        let v = c[i];
+        hit = hit | (v != 0);
+    }
+    hit
+}
+
+// The same of rows `from` to before `to`.
+fn any_in_rows(c: &[i32], w: usize, h: usize, from: usize, to: usize) -> bool
+    requires { ⌜ (w * h ≤ length (now c)) × (to ≤ h) × (from ≤ h) ⌝ }
+    ensures { λ r. ⌜ (r ≡ Bool.false → ZeroRows w h (now (c .entry)) from to) ⌝ }
+{
+    let mut hit = false;
+    for x in 0..w {
+        let i = x * h;
+        let more = any_nonzero(c, i + from, i + to);
+        hit = hit | more;
+    }
+    hit
+}
+
+fn search_stray(c: &[i32], w: usize, h: usize, r: usize) -> Found
     requires { ⌜ (w * h ≤ length (now c)) × (r ≤ h) ⌝ }
     ensures { λ p. ⌜ found p ≡ first (w * h) (in-dead-row r h (now (c .entry))) ⌝ }
 {
@@ -52,22 +102,29 @@ pub fn first_stray(c: &[i32], w: usize, h: usize, r: usize) -> Found
     place
 }
 
-// How many rows hold all that is nonzero, and one at least: each column is looked at from below, down to the rows that are known to be live.
+// Number 10: the first nonzero coefficient in a row r or later.
+pub fn first_stray(c: &[i32], w: usize, h: usize, r: usize) -> Found
+    requires { ⌜ (w * h ≤ length (now c)) × (r ≤ h) ⌝ }
+    ensures { λ p. ⌜ found p ≡ first (w * h) (in-dead-row r h (now (c .entry))) ⌝ }
+{
+    if any_in_rows(c, w, h, r, h) {
+        return search_stray(c, w, h, r);
+    }
+    Found::Nothing
+}
+
+// How many rows hold all that is nonzero: the lower half is dropped while it is zero, down to the four that a block does at once.
 pub fn live_rows(c: &[i32], w: usize, h: usize) -> usize
     requires { ⌜ (w * h ≤ length (now c)) × (1 ≤ h) ⌝ }
     ensures { λ r. ⌜ ((1 ≤ r) × (r ≤ h)) × Covers w h (now (c .entry)) r ⌝ }
 {
-    let mut live = 1;
-    for x in 0..w {
-        let mut y = h;
-        while live < y {
-            let v = c[x * h + y - 1];
-            if v != 0 {
-                live = y;
-            } else {
-                y -= 1;
-            }
+    let mut live = h;
+    while 4 < live {
+        let half = live / 2;
+        if any_in_rows(c, w, h, half, live) {
+            return live;
         }
+        live = half;
     }
     live
 }
