@@ -1,6 +1,6 @@
 -- How far a walk through the steps has come: what the work array holds, and its bounds.
 use mathlib.Core.Path.{_≡_, refl, sym, ap, _∙_, subst⁻¹}
-use mathlib.Core.Bool.{Bool, true, false}
+use mathlib.Core.Bool.{Bool, true, false, _||_, or-assoc}
 use mathlib.Core.List.{List, [], _∷_, _++_}
 use Prim.Native.Nat.{ℕ}
 use lib.IntN.{ℤ}
@@ -13,7 +13,7 @@ use Rattle.whole.proofs.Held.{to2}
 use Rattle.av1.specs.Network.{Alg, Step, B, H, step, run}
 use Rattle.av1.specs.Values.{exact, clipped}
 use Rattle.av1.proofs.Related.{Both, run-related}
-use Rattle.dct.specs.Halves.{before, last, hits}
+use Rattle.dct.specs.Halves.{before, last, hit, hits}
 use Rattle.dct.specs.Fitting.{Ends, Small, sizes, fitting}
 use Rattle.dct.specs.Stages.{turns, joins, small, Turning, Joining, Joined, Ready, Through}
 use Rattle.dct.proofs.Fits.{keep-small, no-clip}
@@ -21,6 +21,10 @@ use Rattle.dct.proofs.Fits.{keep-small, no-clip}
 pub run-append : {A : Type 0} (𝓐 : Alg A) (ss rs : List Step) (xs : List A) → run 𝓐 (ss ++ rs) xs ≡ run 𝓐 rs (run 𝓐 ss xs)
 run-append 𝓐 [] rs xs = refl
 run-append 𝓐 (s ∷ ss) rs xs = run-append 𝓐 ss rs (step 𝓐 s xs)
+
+pub hits-append : (lo hi : ℤ) (ss rs : List Step) (t : List ℤ) → hits lo hi (ss ++ rs) t ≡ hits lo hi ss t || hits lo hi rs (run (clipped lo hi) ss t)
+hits-append lo hi [] rs t = refl
+hits-append lo hi (s ∷ ss) rs t = ap (λ (b : Bool). hit lo hi s t || b) (hits-append lo hi ss rs (step (clipped lo hi) s t)) ∙ sym (or-assoc (hit lo hi s t) _ _)
 
 -- turns have no clip
 abbrev pub are-turns : List Step → Bool

@@ -41,7 +41,7 @@ enum Found {
     Nothing,
 }
 
-pub const REV: [usize; 32] = [
+pub const REV: [u8; 32] = [
     0,
     16,
     8,
@@ -84,7 +84,7 @@ fn gather(c: &[i32], stride: usize, n: usize) -> [i32; 32]
     let m = 32 / n;
     let mut t = [0i32; 32];
     for i in 0..n {
-        let j = REV[i * m];
+        let j = REV[i * m] as usize;
         let v = c[j * stride];
         t[i] = v;
     }

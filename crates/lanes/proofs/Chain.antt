@@ -1,6 +1,6 @@
 -- Stage after stage: lanes on which no clip acts go on, and stay within the bounds that clips would give.
 use mathlib.Core.Path.{_≡_, refl, sym, ap, ap₂, _∙_, subst, subst⁻¹}
-use mathlib.Core.Bool.{Bool, true, false, _||_, or-assoc}
+use mathlib.Core.Bool.{Bool, true, false, _||_}
 use mathlib.Core.List.{List, [], _∷_, _++_}
 use Prim.Native.Nat.{ℕ, zero, suc, _+_, _*_, _-_, _≤_, _<_}
 use native.Mathlib.Nat.{le-trans, le-refl}
@@ -17,16 +17,12 @@ use Rattle.whole.specs.Lists.{at, tab}
 use Rattle.whole.proofs.Held.{to2}
 use Rattle.av1.specs.Sides.{Side, of4, of8, of16, of32, len}
 use Rattle.av1.proofs.Related.{Both, none, one, both-tab, run-related}
-use Rattle.dct.specs.Halves.{hit, hits}
+use Rattle.dct.specs.Halves.{hits}
 use Rattle.dct.specs.Fitting.{Ends, Small, sizes}
 use Rattle.dct.proofs.Fits.{keep-small}
-use Rattle.dct.proofs.Walk.{run-append}
+use Rattle.dct.proofs.Walk.{run-append, hits-append}
 use Rattle.lanes.specs.Lanes.{lane, fitting}
 use Rattle.lanes.specs.Stages.{Sweeps, Left, Ready}
-
-pub hits-append : (lo hi : ℤ) (ss rs : List Step) (L : List ℤ) → hits lo hi (ss ++ rs) L ≡ hits lo hi ss L || hits lo hi rs (run (clipped lo hi) ss L)
-hits-append lo hi [] rs L = refl
-hits-append lo hi (s ∷ ss) rs L = ap (λ (b : Bool). hit lo hi s L || b) (hits-append lo hi ss rs (step (clipped lo hi) s L)) ∙ sym (or-assoc (hit lo hi s L) _ _)
 
 -- ---- the bounds of a lane: n elements that are small, and whatever stands after them
 

@@ -15,10 +15,11 @@ use Rattle.av1.specs.Network.{Step, run}
 use Rattle.av1.specs.Values.{clipped}
 use Rattle.dct.specs.Halves.{before, last, hits}
 use Rattle.dct.specs.Stages.{Through}
+use Rattle.dct.proofs.Walk.{hits-append}
 use Rattle.lanes.specs.Lanes.{lane}
 use Rattle.lanes.specs.Stages.{Left, Ready}
 use Rattle.lanes.proofs.Lanes.{lane-at}
-use Rattle.lanes.proofs.Chain.{parted, hits-append}
+use Rattle.lanes.proofs.Chain.{parted}
 use Rattle.lanes.proofs.Tail.{below, run-length, run-front, hits-front}
 use Rattle.itx_1d.specs.declared.Kind.the-variants.{Dct}
 use Rattle.itx_1d.specs.Passes.{pass}

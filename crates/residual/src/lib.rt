@@ -157,14 +157,14 @@ fn load_column(u: &mut [i32; 1024], from: usize, plan: Plan, coeff: &[i32], x: u
 }
 
 // Rows 0..r-1 as the lanes of a block, for a DCT.
-fn load(u: &mut [i32; 1024], rev: &[usize; 32], plan: Plan, coeff: &[i32], r: usize)
+fn load(u: &mut [i32; 1024], rev: &[u8; 32], plan: Plan, coeff: &[i32], r: usize)
     requires { ⌜ Inner.Loads plan (now rev) (now coeff) r (now u) ⌝ }
     ensures { λ _. ⌜ Inner.Laid (plan .w) r (plan .w) (λ x y. Inner.loaded plan (now (coeff .entry)) y x) (now (u .exit)) ⌝ }
 {
     let w = plan.w;
     let m = 32 / w;
     for x in 0..w {
-        let i = rev[x * m];
+        let i = rev[x * m] as usize;
         load_column(&mut *u, i * 32, plan, coeff, x, r);
     }
 }
@@ -195,7 +195,7 @@ fn store(t: &mut [i32], plan: Plan, u: &[i32; 1024], r: usize)
 fn quick_rows(
     t: &mut [i32],
     u: &mut [i32; 1024],
-    rev: &[usize; 32],
+    rev: &[u8; 32],
     plan: Plan,
     coeff: &[i32],
     r: usize,
@@ -218,7 +218,7 @@ fn quick_rows(
 fn rows(
     t: &mut [i32],
     u: &mut [i32; 1024],
-    rev: &[usize; 32],
+    rev: &[u8; 32],
     plan: Plan,
     coeff: &[i32],
     r: usize,
@@ -250,13 +250,13 @@ fn copy(u: &mut [i32], i: usize, t: &[i32], j: usize, n: usize)
 }
 
 // The columns of the block as the lanes of u, for a DCT.
-fn lay(u: &mut [i32; 1024], rev: &[usize; 32], t: &[i32], w: usize, h: usize)
+fn lay(u: &mut [i32; 1024], rev: &[u8; 32], t: &[i32], w: usize, h: usize)
     requires { ⌜ Inner.Lays (now rev) (now t) w h (now u) ⌝ }
     ensures { λ _. ⌜ Inner.Laid h w h (λ y x. at (now (t .entry)) (y * w + x)) (now (u .exit)) ⌝ }
 {
     let m = 32 / h;
     for y in 0..h {
-        let i = rev[y * m];
+        let i = rev[y * m] as usize;
         copy(&mut *u, i * 32, t, y * w, w);
     }
 }
@@ -275,7 +275,7 @@ fn take(t: &mut [i32], u: &[i32; 1024], w: usize, h: usize)
 fn quick_columns(
     t: &mut [i32],
     u: &mut [i32; 1024],
-    rev: &[usize; 32],
+    rev: &[u8; 32],
     w: usize,
     h: usize,
     min: i32,
@@ -297,7 +297,7 @@ fn quick_columns(
 fn columns(
     t: &mut [i32],
     u: &mut [i32; 1024],
-    rev: &[usize; 32],
+    rev: &[u8; 32],
     plan: Plan,
     min: i32,
     max: i32,

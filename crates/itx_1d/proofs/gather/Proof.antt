@@ -31,6 +31,10 @@ here c = source-at (start c .args .n) (start c .pre .is-length) (c .before .loop
 there : (c : tie.In-loop Inv-loop μ-loop) → source (start c .args .n) (c .before .loop .i) * start c .args .stride < length (start c .args .c .now)
 there c = start c .pre .inside _ (here c .below)
 
+-- what the table holds
+byte : (c : tie.In-loop Inv-loop μ-loop) → source (start c .args .n) (c .before .loop .i) < 18446744073709551616
+byte c = omega (arith, here c .below, at-most-32 (start c .args .n) (start c .pre .is-length))
+
 loop-again : tie.Need-loop-again Inv-loop μ-loop
 loop-again c =
     let h = c .before .before in
@@ -60,7 +64,7 @@ gather-spec =
     (λ c. (refl, omega arith, refl))
     (λ c. omega (arith, here c .in-table))
     (λ c. omega (arith, here c .in-table))
-    (λ c. omega (arith, here c .in-table))
+    (λ c. record { fits = byte c })
     (λ c. omega (arith, there c))
     (λ c. omega (arith, there c))
     (λ c. omega (arith, there c))

@@ -4,6 +4,7 @@ use mathlib.Core.List.{List}
 use Prim.Native.Nat.{ℕ, suc, _≤_, _<_, _+_, _*_, _-_, _/_}
 use native.Mathlib.Nat.{le-trans, mul-le-mul}
 use native.Mathlib.Omega.{arith}
+use lib.Dec.{lit≤}
 use lib.ListN.{length, getD}
 use Rattle.whole.specs.Lists.{at}
 use Rattle.itx_1d.specs.Inner.{source}
@@ -56,7 +57,7 @@ lay-spec =
     (λ c. (laid-none (c .args .h) (c .args .w) _ (c .args .u .now) (c .pre .lends .u-long), omega arith))
     (λ c. omega (arith, in-table c))
     (λ c. omega (arith, in-table c))
-    (λ c. omega (arith, in-table c))
+    (λ c. record { fits = le-trans (placed (c .before)) (lit≤ tt) })
     (λ c. omega (arith, placed (c .before .before)))
     (λ c. omega (arith, row-in (c .before .before)))
     (λ c κs.

@@ -4,6 +4,7 @@ use mathlib.Core.List.{List}
 use Prim.Native.Nat.{ℕ, _≤_, _<_, _+_, _*_, _-_, _/_}
 use native.Mathlib.Nat.{le-trans}
 use native.Mathlib.Omega.{arith}
+use lib.Dec.{lit≤}
 use lib.ListN.{length, getD}
 use Rattle.itx_1d.specs.Inner.{source}
 use Rattle.itx_1d.proofs.Strides.{source-at, not-0}
@@ -57,7 +58,7 @@ load-spec =
     (λ c. (laid-none (c .args .plan .w) (c .args .r) _ (c .args .u .now) (c .pre .long), omega arith))
     (λ c. omega (arith, in-table c))
     (λ c. omega (arith, in-table c))
-    (λ c. omega (arith, in-table c))
+    (λ c. record { fits = le-trans (placed (c .before)) (lit≤ tt) })
     (λ c. omega (arith, placed (c .before .before)))
     (λ c κs.
     let i = c .before .before in
