@@ -1,5 +1,5 @@
 -- How far a walk through the steps has come: what the work array holds, and its bounds.
-use mathlib.Core.Path.{_≡_, refl, sym, ap, _∙_, subst⁻¹}
+use mathlib.Core.Path.{_≡_, refl, sym, ap, ap₂, _∙_, subst⁻¹}
 use mathlib.Core.Bool.{Bool, true, false, _||_, or-assoc}
 use mathlib.Core.List.{List, [], _∷_, _++_}
 use Prim.Native.Nat.{ℕ}
@@ -71,6 +71,12 @@ module _ {lo hi : ℤ} {t : List ℤ} {ss : List Step} {u v : List ℤ} (w : Wal
 
   pub mark-is : {r : Bool} (rs : List Step) → Joined rs (toZ w32 (ofZ w32 lo)) (toZ w32 (ofZ w32 hi)) u v r → r ≡ hits lo hi rs (run (clipped lo hi) ss t)
   mark-is rs e = e .mark ∙ read-back (w .low-fits) (w .high-fits) (λ x y. hits x y rs u) ∙ ap (hits lo hi rs) (w .is)
+
+-- the last butterflies in two runs
+pub mark-both : {lo hi : ℤ} {t u v x : List ℤ} {ss : List Step} {p q : Bool} → Walked lo hi t ss u → (rs qs : List Step) → Walked lo hi t (ss ++ rs) v → Joined rs (toZ w32 (ofZ w32 lo)) (toZ w32 (ofZ w32 hi)) u v p
+    → Joined qs (toZ w32 (ofZ w32 lo)) (toZ w32 (ofZ w32 hi)) v x q → p || q ≡ hits lo hi (rs ++ qs) (run (clipped lo hi) ss t)
+mark-both {lo} {hi} {t} {ss = ss} w rs qs w′ e f =
+    ap₂ (λ (a b : Bool). a || b) (mark-is w rs e) (mark-is w′ qs f ∙ ap (hits lo hi qs) (run-append (clipped lo hi) ss rs t)) ∙ sym (hits-append lo hi rs qs (run (clipped lo hi) ss t))
 
 -- the half
 pub halved : {lo hi : ℤ} {t u : List ℤ} {r : Bool} (n : ℕ) → SFits w32 lo → SFits w32 hi → Ready t lo hi → Through n (toZ w32 (ofZ w32 lo)) (toZ w32 (ofZ w32 hi)) t u r → Walked lo hi t (before n ++ last n) u

@@ -241,40 +241,10 @@ const TURNS32C: [usize; 8] = [27, 20, 26, 21, 25, 22, 24, 23];
 
 const ANGLES32C: [i32; 8] = [2896, 2896, 2896, 2896, 2896, 2896, 2896, 2896];
 
-const LAST32: [usize; 32] = [
-    0,
-    31,
-    1,
-    30,
-    2,
-    29,
-    3,
-    28,
-    4,
-    27,
-    5,
-    26,
-    6,
-    25,
-    7,
-    24,
-    8,
-    23,
-    9,
-    22,
-    10,
-    21,
-    11,
-    20,
-    12,
-    19,
-    13,
-    18,
-    14,
-    17,
-    15,
-    16,
-];
+// The last butterflies in two runs of eight: a longer table would be laid on the stack.
+const OUTER32: [usize; 16] = [0, 31, 1, 30, 2, 29, 3, 28, 4, 27, 5, 26, 6, 25, 7, 24];
+
+const INNER32: [usize; 16] = [8, 23, 9, 22, 10, 21, 11, 20, 12, 19, 13, 18, 14, 17, 15, 16];
 
 // inv_dct32_1d_internal_c.
 pub fn dct32(t: &mut [i32; 32], min: i32, max: i32) -> bool
@@ -289,6 +259,7 @@ pub fn dct32(t: &mut [i32; 32], min: i32, max: i32) -> bool
     turns(&mut *t, &TURNS32B, &ANGLES32B, true);
     let odd_b = joins(&mut *t, &JOINS32B, min, max);
     turns(&mut *t, &TURNS32C, &ANGLES32C, true);
-    let last = joins(&mut *t, &LAST32, min, max);
-    mark_of(half | odd | odd_a | odd_b, last)
+    let outer = joins(&mut *t, &OUTER32, min, max);
+    let inner = joins(&mut *t, &INNER32, min, max);
+    mark_of(half | odd | odd_a | odd_b, outer | inner)
 }

@@ -4,8 +4,8 @@ ghost use mathlib.Core.Bool as Bool;
 ghost use mathlib.Core.Option.{Option};
 ghost use Prim.Native.Nat.{ℕ, _+_, _*_, _-_, _≤_, _<_};
 ghost use lib.Dec.{T, eqb, leb};
-ghost use lib.IntN.{ℤ, natAbs};
-ghost use lib.ListN.{length};
+ghost use lib.IntN.{ℤ, pos, natAbs};
+ghost use lib.ListN.{length, replicate};
 ghost use Rattle.whole.specs.Numbers as Numbers;
 ghost use Rattle.whole.specs.Lists.{at, first};
 ghost use Rattle.av1.specs.Sides.{of4, of8, of16, of32, len, bits, side};
@@ -77,23 +77,21 @@ pub const REV: [u8; 32] = [
 ];
 
 // The work array of the DCTs. The crate runs the half in place at double stride; here the even inputs stand first.
-fn gather(c: &[i32], stride: usize, n: usize) -> [i32; 32]
-    requires { ⌜ Inner.Reaches (now c) stride n ⌝ }
-    ensures { λ r. ⌜ r ≡ Inner.gathered (now (c .entry)) stride n ⌝ }
+fn gather(t: &mut [i32; 32], c: &[i32], stride: usize, n: usize)
+    requires { ⌜ Inner.Reaches (now c) stride n × (now t ≡ replicate 32 (pos 0)) ⌝ }
+    ensures { λ _. ⌜ now (t .exit) ≡ Inner.gathered (now (c .entry)) stride n ⌝ }
 {
     let m = 32 / n;
-    let mut t = [0i32; 32];
     for i in 0..n {
         let j = REV[i * m] as usize;
         let v = c[j * stride];
         t[i] = v;
     }
-    t
 }
 
-fn scatter(c: &mut [i32], stride: usize, n: usize, t: [i32; 32])
+fn scatter(c: &mut [i32], stride: usize, n: usize, t: &[i32; 32])
     requires { ⌜ Inner.Reaches (now c) stride n ⌝ }
-    ensures { λ _. ⌜ now (c .exit) ≡ Calls.put (now (c .entry)) stride t n ⌝ }
+    ensures { λ _. ⌜ now (c .exit) ≡ Calls.put (now (c .entry)) stride (now (t .entry)) n ⌝ }
 {
     for i in 0..n {
         let v = t[i];
@@ -118,9 +116,10 @@ fn dct(c: &mut [i32], n: usize, stride: usize, min: i32, max: i32) -> bool
     requires { ⌜ Inner.Passable (now c) stride n 524288 × Inner.Ranged min max ⌝ }
     ensures { λ r. ⌜ Inner.PassIs Kind.Dct n stride (natAbs min) (now (c .entry)) (now (c .exit)) r ⌝ }
 {
-    let mut t = gather(&*c, stride, n);
+    let mut t = [0i32; 32];
+    gather(&mut t, &*c, stride, n);
     let mark = dct_of(&mut t, n, min, max);
-    scatter(&mut *c, stride, n, t);
+    scatter(&mut *c, stride, n, &t);
     mark
 }
 

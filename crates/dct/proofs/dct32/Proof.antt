@@ -7,7 +7,7 @@ use lib.ListN.{take, drop}
 use borrow.Author.Needs.{needs}
 use Rattle.av1.specs.Network.{Step}
 use Rattle.dct.specs.Halves.{before, last}
-use Rattle.dct.proofs.Walk.{Walked, halved, turned, joined, ask-turns, ask-joins, mark-is}
+use Rattle.dct.proofs.Walk.{Walked, halved, turned, joined, ask-turns, ask-joins, mark-both}
 use Rattle.dct.proofs.dct32.Statement.{statement}
 use Rattle.dct.proofs.dct32.Tie as tie
 
@@ -65,12 +65,18 @@ s7 c = s6 (c .before .before .before .before)
 w7 : (c : tie.After-turns4) → Walk (s7 c) 81 (c .turns4 .last .0)
 w7 c = turned (w6 (c .before .before .before .before)) (steps 77 81) tt (c .turns4 .ensures)
 
+abbrev s8 : tie.After-joins4 → tie.Start
+s8 c = s7 (c .before .before .before)
+
+w8 : (c : tie.After-joins4) → Walk (s8 c) 89 (c .joins4 .last .0)
+w8 c = joined (w7 (c .before .before .before)) (steps 81 89) (c .joins4 .ensures)
+
 returns : tie.Need-returns
 returns c =
     let j = c .before in
-    let w = w7 (j .before .before .before) in
-    let e = j .joins4 .ensures in
-    record { elements = joined w (last 4) e .is; mark = c .mark-of .ensures ∙ mark-is w (last 4) e }
+    let i = j .before .before .before in
+    let w = w7 (i .before .before .before) in
+    record { elements = joined (w8 i) (steps 89 97) (j .joins5 .ensures) .is; mark = c .mark-of .ensures ∙ mark-both w (steps 81 89) (steps 89 97) (w8 i) (i .joins4 .ensures) (j .joins5 .ensures) }
 
 pub dct32-spec : {M : Type 1} → statement M
 dct32-spec =
@@ -97,5 +103,7 @@ dct32-spec =
     (λ c κs. ask-turns (w6 (c .before .before .before)) refl tt)
     (λ c. search needs)
     (λ c κs. ask-joins (w7 (c .before .before)) tt)
+    (λ c. search needs)
+    (λ c κs. ask-joins (w8 (c .before .before)) tt)
     (λ c κs. search needs)
     returns)

@@ -15,7 +15,7 @@ use Rattle.itx_1d.proofs.dct.Tie as tie
 
 dct-of-requires : tie.Need-dct-of-requires
 dct-of-requires c κs =
-    let s = c .before .before .before in
+    let s = c .before .before .before .before in
     record {
       inside = subst⁻¹ (λ (t : List ℤ). Both Small t small) (c .before .gather .ensures) (gathered-small (s .args .c .now) (s .args .stride) (s .args .n) (s .pre .0));
       ends = to2 Ends (s .fits .min) (s .fits .max) (ends-of (s .pre .1));
@@ -23,9 +23,9 @@ dct-of-requires c κs =
 
 returns : tie.Need-returns
 returns c =
-    let d = c .before .before .before in
+    let d = c .before .before .before .before in
     let g = d .before .before in
-    let s = g .before .before in
+    let s = g .before .before .before in
     let r = s .args .c .now in
     let is = dct-is r (s .args .stride) (s .args .n) (s .pre .1) (s .pre .0 .reaches .is-length) (g .gather .ensures) (through-held (s .fits .min) (s .fits .max) (d .dct-of .ensures)) in
     subst⁻¹ (λ (x : List ℤ). PassIs Dct (s .args .n) (s .args .stride) (natAbs (s .args .min)) r x (d .dct-of .result)) (c .before .scatter .ensures) is

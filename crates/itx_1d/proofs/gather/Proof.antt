@@ -17,23 +17,23 @@ abbrev element : List ℤ → ℕ → ℕ → ℕ → ℤ
 element c s n i = at c (source n i * s)
 
 abbrev Inv-loop : tie.InvT-loop
-Inv-loop c stride n m t₀ i₀ t i = (t ≡ tab i (element c stride n) ++ replicate (32 - i) (pos 0)) × (i ≤ n) × (m ≡ 32 / n)
+Inv-loop t₀ c stride n m i₀ t i = (t ≡ tab i (element c stride n) ++ replicate (32 - i) (pos 0)) × (i ≤ n) × (m ≡ 32 / n)
 
 abbrev μ-loop : tie.MeasureT-loop
-μ-loop c stride n m t₀ i₀ t i = n - i
+μ-loop t₀ c stride n m i₀ t i = n - i
 
 abbrev start : tie.In-loop Inv-loop μ-loop → tie.Start Inv-loop μ-loop
 start c = c .before .before
 
 here : (c : tie.In-loop Inv-loop μ-loop) → Source (start c .args .n) (c .before .loop .i)
-here c = source-at (start c .args .n) (start c .pre .is-length) (c .before .loop .i) (c .loop-test .taken)
+here c = source-at (start c .args .n) (start c .pre .0 .is-length) (c .before .loop .i) (c .loop-test .taken)
 
 there : (c : tie.In-loop Inv-loop μ-loop) → source (start c .args .n) (c .before .loop .i) * start c .args .stride < length (start c .args .c .now)
-there c = start c .pre .inside _ (here c .below)
+there c = start c .pre .0 .inside _ (here c .below)
 
 -- what the table holds
 byte : (c : tie.In-loop Inv-loop μ-loop) → source (start c .args .n) (c .before .loop .i) < 18446744073709551616
-byte c = omega (arith, here c .below, at-most-32 (start c .args .n) (start c .pre .is-length))
+byte c = omega (arith, here c .below, at-most-32 (start c .args .n) (start c .pre .0 .is-length))
 
 loop-again : tie.Need-loop-again Inv-loop μ-loop
 loop-again c =
@@ -42,7 +42,7 @@ loop-again c =
     let n = s .args .n in
     let v = element (s .args .c .now) (s .args .stride) n (h .loop .i) in
     let w = toZ-ofZ w32 v (record { sfits = c .v .given }) in (
-      (λ k. set (h .loop .inv .0 k) (h .loop .i) (w k)) ∙ one-more (h .loop .i) (element (s .args .c .now) (s .args .stride) n) (omega (arith, at-most-32 n (s .pre .is-length), c .before .loop-test .taken)),
+      (λ k. set (h .loop .inv .0 k) (h .loop .i) (w k)) ∙ one-more (h .loop .i) (element (s .args .c .now) (s .args .stride) n) (omega (arith, at-most-32 n (s .pre .0 .is-length), c .before .loop-test .taken)),
       omega arith,
       h .loop .inv .2,
     )
@@ -60,16 +60,16 @@ gather-spec =
     (tie.spec
     Inv-loop
     μ-loop
-    (λ c. omega (arith, not-0 (c .args .n) (c .pre .is-length)))
-    (λ c. (refl, omega arith, refl))
+    (λ c. omega (arith, not-0 (c .args .n) (c .pre .0 .is-length)))
+    (λ c. (c .pre .1, omega arith, refl))
     (λ c. omega (arith, here c .in-table))
     (λ c. omega (arith, here c .in-table))
     (λ c. record { fits = byte c })
     (λ c. omega (arith, there c))
     (λ c. omega (arith, there c))
     (λ c. omega (arith, there c))
-    (λ c. omega (arith, at-most-32 _ (c .before .before .before .pre .is-length)))
-    (λ c. omega (arith, at-most-32 _ (c .before .before .before .pre .is-length)))
+    (λ c. omega (arith, at-most-32 _ (c .before .before .before .pre .0 .is-length)))
+    (λ c. omega (arith, at-most-32 _ (c .before .before .before .pre .0 .is-length)))
     (λ c. omega arith)
     (λ c. omega arith)
     loop-again

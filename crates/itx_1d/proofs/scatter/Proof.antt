@@ -34,15 +34,15 @@ unfolding put
 loop-again c =
     let h = c .before .before in
     let s = h .before in
-    let w = toZ-ofZ w32 (at (s .args .t4) (h .loop .i)) (record { sfits = c .v .given }) in
-    ((λ k. set (h .loop .inv .0 k) (h .loop .i * s .args .stride) (w k)) ∙ ap (put (s .args .c .now) (s .args .stride) (s .args .t4)) (sym (add-one (h .loop .i))), omega arith)
+    let w = toZ-ofZ w32 (at (s .args .t .now) (h .loop .i)) (record { sfits = c .v .given }) in
+    ((λ k. set (h .loop .inv .0 k) (h .loop .i * s .args .stride) (w k)) ∙ ap (put (s .args .c .now) (s .args .stride) (s .args .t .now)) (sym (add-one (h .loop .i))), omega arith)
 
 returns : tie.Need-returns Inv-loop μ-loop
 returns c =
     let h = c .before in
     let s = h .before in
     let all : h .loop .i ≡ s .args .n = omega arith in
-    h .loop .inv .0 ∙ ap (put (s .args .c .now) (s .args .stride) (s .args .t4)) all
+    h .loop .inv .0 ∙ ap (put (s .args .c .now) (s .args .stride) (s .args .t .now)) all
 
 pub scatter-spec : {M : Type 1} → statement M
 scatter-spec =
