@@ -5,7 +5,7 @@ use Prim.Native.Nat.{ℕ, zero, suc, _^_}
 use lib.IntN.{ℤ}
 use lib.ListN.{getD, set}
 use Rattle.whole.specs.Lists.{tab}
-use Rattle.av1.specs.Network.{Alg, Step, B, H, step, run, brev, steps, dct}
+use Rattle.av1.specs.Network.{Alg, Step, B, H, step, run, brev, steps, permuted, dct}
 
 pub data Both {A C : Type 0} (R : A → C → Type 0) : List A → List C → Type 0 where
   none : Both R [] []
@@ -47,5 +47,8 @@ module _ {A C : Type 0} {𝓐 : Alg A} {𝓑 : Alg C} {R : A → C → Type 0} (
   run-related [] h = h
   run-related (s ∷ ss) h = run-related ss (step-related s h)
 
+  pub permuted-related : (n : ℕ) {xs : List A} {us : List C} → Both R xs us → Both R (permuted 𝓐 n xs) (permuted 𝓑 n us)
+  permuted-related n {xs} {us} h = both-tab (2 ^ n) (λ i. getD xs (brev n i) (𝓐 .none)) (λ i. getD us (brev n i) (𝓑 .none)) (λ i. there h (brev n i))
+
   pub dct-related : (n : ℕ) {xs : List A} {us : List C} → Both R xs us → Both R (dct 𝓐 n xs) (dct 𝓑 n us)
-  dct-related n {xs} {us} h = run-related (steps n) (both-tab (2 ^ n) (λ i. getD xs (brev n i) (𝓐 .none)) (λ i. getD us (brev n i) (𝓑 .none)) (λ i. there h (brev n i)))
+  dct-related n h = run-related (steps n) (permuted-related n h)
