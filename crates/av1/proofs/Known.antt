@@ -10,12 +10,13 @@ use lib.ListN.{getD, replicate}
 use mir.Facts.{and-yes}
 use Rattle.whole.specs.Numbers.{_>>_, round2, clip, outside}
 use Rattle.whole.specs.Lists.{at, tab}
+use Rattle.whole.specs.Both.{Both, none, one}
 use Rattle.whole.proofs.Clips.{clip-inside, clip-kept}
 use Rattle.av1.specs.Sides.{Side, of4, of8, of16, of32, len, bits}
 use Rattle.av1.specs.Network.{Alg, Step, B, H, step, run, steps, permuted, dct}
 use Rattle.av1.specs.Values.{turnX, turnY, clipped, hits}
 use Rattle.av1.proofs.Related as Related
-use Rattle.av1.proofs.Related.{Both, none, one, both-tab, Respects, step-related, run-related, permuted-related, dct-related}
+use Rattle.av1.proofs.Related.{both-tab, Respects, step-related, run-related, permuted-related, dct-related}
 
 -- zero; d; d turned by 45 degrees; a number that a clip stored; any number
 pub data Known : Type 0 where

@@ -1,15 +1,12 @@
 -- One theorem for every network: what relates the values of two algebras, operation by operation, relates what a list of steps leaves.
-use mathlib.Core.Bool.{Bool, true, false}
+use mathlib.Core.Bool.{true, false}
 use mathlib.Core.List.{List, [], _∷_}
 use Prim.Native.Nat.{ℕ, zero, suc, _^_}
 use lib.IntN.{ℤ}
 use lib.ListN.{getD, set}
 use Rattle.whole.specs.Lists.{tab}
+use Rattle.whole.specs.Both.{Both, none, one}
 use Rattle.av1.specs.Network.{Alg, Step, B, H, step, run, brev, steps, permuted, dct}
-
-pub data Both {A C : Type 0} (R : A → C → Type 0) : List A → List C → Type 0 where
-  none : Both R [] []
-  one : {a : A} {b : C} {xs : List A} {us : List C} → R a b → Both R xs us → Both R (a ∷ xs) (b ∷ us)
 
 -- of two functions that are related at each place
 pub both-tab : {A C : Type 0} {R : A → C → Type 0} (n : ℕ) (f : ℕ → A) (g : ℕ → C) → ((i : ℕ) → R (f i) (g i)) → Both R (tab n f) (tab n g)

@@ -9,10 +9,11 @@ use lib.ListN.{length}
 use mir.Syntax.{w32}
 use mir.Val.{SFits, toZ, ofZ}
 use mir.ValLaws.{toZ-ofZ}
+use Rattle.whole.specs.Both.{Both}
 use Rattle.whole.proofs.Held.{to2}
 use Rattle.av1.specs.Network.{Alg, Step, B, H, step, run}
 use Rattle.av1.specs.Values.{exact, clipped, hit, hits}
-use Rattle.av1.proofs.Related.{Both, run-related}
+use Rattle.av1.proofs.Related.{run-related}
 use Rattle.dct.specs.Halves.{before, last}
 use Rattle.dct.specs.Fitting.{Ends, Small, sizes, fitting}
 use Rattle.dct.specs.Stages.{turns, joins, small, Turning, Joining, Joined, Ready, Through}

@@ -5,9 +5,9 @@ use mathlib.Core.List.{List, [], _∷_, _++_}
 use Prim.Native.Nat.{ℕ}
 use lib.IntN.{ℤ}
 use lib.ListN.{length, replicate}
+use Rattle.whole.specs.Both.{Both}
 use Rattle.av1.specs.Network.{Step, B, H, run}
-use Rattle.av1.specs.Values.{exact, clipped, hits}
-use Rattle.av1.proofs.Related.{Both}
+use Rattle.av1.specs.Values.{clipped, hits}
 use Rattle.dct.specs.Halves.{before, last}
 use Rattle.dct.specs.Fitting.{Able, Ends, Small}
 

@@ -1,9 +1,8 @@
 // The DCTs of src/itx_1d.rs on a work array that holds the inputs in bit-reversed order.
 ghost use mathlib.Core.Path.{_≡_};
 ghost use mathlib.Core.List.{_∷_, []};
-ghost use lib.IntN.{ℤ};
 ghost use Rattle.av1.specs.Network as Network;
-ghost use Rattle.av1.specs.Values.{exact, clipped};
+ghost use Rattle.av1.specs.Values.{exact};
 ghost use Rattle.dct.specs.Fitting.{Turnable, Mixable};
 ghost use Rattle.dct.specs.Stages as Stages;
 use intops::dot;

@@ -1,29 +1,27 @@
 -- The DCT on the work array is document 01's pass on the elements.
 use mathlib.Core.Path.{_≡_, refl, sym, ap, _∙_, subst, subst⁻¹}
-use mathlib.Core.Logic.{_≢_}
 use mathlib.Core.Bool.{Bool, cond}
 use mathlib.Core.List.{List, [], _∷_, _++_}
 use Prim.Native.Nat.{ℕ, zero, suc, _+_, _*_, _-_, _≤_, _<_}
 use native.Mathlib.Omega.{arith}
 use lib.IntN.{ℤ, pos, natAbs}
-use lib.ListN.{getD, replicate, set}
+use lib.ListN.{replicate, set}
 use borrow.Author.Tests.{ne-eqb}
 use mir.Syntax.{w32}
 use mir.Val.{SFits, toZ, ofZ}
-use mir.ValLaws.{toZ-ofZ}
 use Rattle.whole.specs.Numbers.{low, high}
 use Rattle.whole.specs.Lists.{at, tab}
+use Rattle.whole.specs.Both.{Both, none, one}
 use Rattle.av1.specs.Sides.{Side, of4, of8, of16, of32, len, bits, side}
 use Rattle.av1.specs.Network.{permuted, run, steps}
 use Rattle.av1.specs.Values.{clipped, hits}
-use Rattle.av1.proofs.Related.{Both, none, one}
 use Rattle.dct.specs.Halves.{before, last}
 use Rattle.dct.specs.Fitting.{Small, Ends}
 use Rattle.dct.specs.Stages.{Through, small}
 use Rattle.dct.proofs.Order.{order, mark-order}
 use Rattle.dct.proofs.Walk.{read-back}
 use Rattle.itx_1d.specs.declared.Kind.the-variants.{Dct}
-use Rattle.itx_1d.specs.Passes.{Passed, pass}
+use Rattle.itx_1d.specs.Passes.{pass}
 use Rattle.itx_1d.specs.Calls.{taken, put}
 use Rattle.itx_1d.specs.Inner.{source, gathered, Passable, Ranged, PassIs}
 use Rattle.itx_1d.proofs.Strides.{source-at, at-most-32}
