@@ -8,7 +8,7 @@ use lib.Dec.{eqb, ltb}
 use lib.IntN.{ℤ, pos}
 use lib.ListN.{replicate, drop}
 use Rattle.whole.specs.Numbers.{_>>_, round2, clip, low, high}
-use Rattle.whole.specs.Lists.{at, tab, any}
+use Rattle.whole.specs.Lists.{at, any}
 use Rattle.whole.specs.Checks.{Check, accept, refuse}
 use Rattle.whole.proofs.Clips.{or-false}
 use Rattle.whole.proofs.Counts.{tab-ext, any-none, none-of-any}
@@ -22,9 +22,11 @@ use Rattle.bitdepth.specs.declared.Depth.the-variants.{Eight, Ten, Twelve}
 use Rattle.bitdepth.specs.Depths.{row-range, column-range, maximum}
 use Rattle.levels.specs.declared.Plan.{Plan}
 use Rattle.pixels.specs.Adds.{add-pixel}
-use Rattle.itx.specs.Av1.{bit-depth, held, av1-way}
-use Rattle.itx.specs.Calls.{Block, Call, verdict, short, live-rows, by-shortcut, by-passes, outcome-of, outcome}
+use Rattle.itx.specs.Av1.{bit-depth, held, av1-way, av1-outcome}
+use Rattle.itx.specs.Calls.{Block, Call, plain, Outcome, verdict, short, live-rows, by-shortcut, by-passes, outcome-of, outcome}
+use Rattle.itx.specs.Demands.{Accepted, Announced}
 use Rattle.pixels.proofs.Pixels.{rows-ext}
+use Rattle.itx.proofs.Demand3.{demand-3}
 use Rattle.residual.specs.Blocks.{entered, row, middle, column, residual, marked, prescale, if-wht, way}
 
 -- ---- number by number
@@ -67,7 +69,12 @@ module _ (p : Plan) (d : Depth) (c : List ℤ) (r : ℕ) (unmarked : marked (way
 
 -- ---- the call
 
-module _ (call : Call) (b : Block) where
+-- o′ for o, where the shortcut s is not taken
+instead : (t : Bool) (s o o′ : Outcome) → (o .answer .mark ≡ false → o ≡ o′) → cond t s o .answer .mark ≡ false → cond t s o ≡ cond t s o′
+instead true s o o′ f e = refl
+instead false s o o′ f e = f e
+
+module _ (b : Block) where
   passes-av1 : (p : Plan) (d : Depth) (r : ℕ) → marked (way p d) (b .coefs) r ≡ false → by-passes b p d (way p d) r ≡ by-passes b p d (av1-way p d) r
   passes-av1 p d r e =
       let 𝓦 = av1-way p d in
@@ -81,16 +88,18 @@ module _ (call : Call) (b : Block) where
         coefs = replicate n (pos 0) ++ drop n c;
       }
 
-  -- every call on every block, refused ones too; the shortcut is left to both sides
-  pub unmarked-av1 : outcome call b .answer .mark ≡ false → outcome call b ≡ outcome-of av1-way call b (verdict call b)
-  unfolding outcome
-  unmarked-av1 = left (verdict call b)
-    where
-      by-way : (p : Plan) (d : Depth) (t : Bool) → cond t (by-shortcut b p d) (by-passes b p d (way p d) (live-rows call p)) .answer .mark ≡ false
-          → cond t (by-shortcut b p d) (by-passes b p d (way p d) (live-rows call p)) ≡ cond t (by-shortcut b p d) (by-passes b p d (av1-way p d) (live-rows call p))
-      by-way p d true e = refl
-      by-way p d false e = passes-av1 p d (live-rows call p) e
+  -- what may be announced of an accepted block, the shortcut too: its mark is that of the long way, by demand 3
+  pub announced-av1 : (p : Plan) (d : Depth) → Accepted (plain (pos 0)) b p d → {call : Call} → Announced b p d call
+      → outcome call b .answer .mark ≡ false → outcome call b ≡ av1-outcome b p d
+  announced-av1 p d good a e =
+      let same = demand-3 b p d good a in
+      same ∙ passes-av1 p d (p .h) (sym (ap (λ (o : Outcome). o .answer .mark) same) ∙ e)
 
+  -- every call on every block, refused ones too, by the specification's passes; where the shortcut is taken it is on both sides
+  pub unmarked-av1 : (call : Call) → outcome call b .answer .mark ≡ false → outcome call b ≡ outcome-of av1-way call b (verdict call b)
+  unfolding outcome
+  unmarked-av1 call = left (verdict call b)
+    where
       left : (v : Check (Plan × Depth)) → outcome-of way call b v .answer .mark ≡ false → outcome-of way call b v ≡ outcome-of av1-way call b v
       left (refuse n i) e = refl
-      left (accept (p, d)) e = by-way p d (short call p) e
+      left (accept (p, d)) e = instead (short call p) (by-shortcut b p d) _ _ (passes-av1 p d (live-rows call p)) e
