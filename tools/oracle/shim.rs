@@ -203,14 +203,13 @@ pub mod recorder {
     use std::num::NonZeroUsize;
 
     thread_local! {
-        /// A bit for each call of `iclip`, the latest lowest: whether it changed its value.
-        /// The longest pass, the 32-point DCT, makes just 128 calls.
-        static CHANGES: Cell<u128> = const { Cell::new(0) };
+        /// Whether a call of `iclip` has changed its value.
+        static CHANGED: Cell<bool> = const { Cell::new(false) };
         static MARK: Cell<bool> = const { Cell::new(false) };
     }
 
     pub fn record(changed: bool) {
-        CHANGES.set(CHANGES.get() << 1 | changed as u128);
+        CHANGED.set(CHANGED.get() | changed);
     }
 
     /// Runs `work`, and says whether a DCT pass in it raised the mark.
@@ -221,22 +220,16 @@ pub mod recorder {
     }
 
     // Under the names that `inv_txfm_add_rust` calls: its passes then raise the mark with no edit of its text.
-    // A pass of n points stores by its last n calls of `iclip`, and by those alone.
+    // A DCT pass calls `iclip` for its own steps and those of its half; between the passes it is called outside of them.
     macro_rules! marked {
-        ($($name:ident of $n:literal),*) => {
+        ($($name:ident),*) => {
             $(pub fn $name(c: &mut [i32], stride: NonZeroUsize, min: i32, max: i32) {
-                CHANGES.set(0);
+                CHANGED.set(false);
                 crate::itx_1d::$name(c, stride, min, max);
-                let stores = CHANGES.get() & ((1 << $n) - 1);
-                MARK.set(MARK.get() | (stores != 0));
+                MARK.set(MARK.get() | CHANGED.get());
             })*
         };
     }
 
-    marked!(
-        rav1d_inv_dct4_1d_c of 4,
-        rav1d_inv_dct8_1d_c of 8,
-        rav1d_inv_dct16_1d_c of 16,
-        rav1d_inv_dct32_1d_c of 32
-    );
+    marked!(rav1d_inv_dct4_1d_c, rav1d_inv_dct8_1d_c, rav1d_inv_dct16_1d_c, rav1d_inv_dct32_1d_c);
 }

@@ -1,15 +1,12 @@
 -- One theorem for every network: what relates the values of two algebras, operation by operation, relates what a list of steps leaves.
-use mathlib.Core.Bool.{Bool, true, false}
+use mathlib.Core.Bool.{true, false}
 use mathlib.Core.List.{List, [], _∷_}
 use Prim.Native.Nat.{ℕ, zero, suc, _^_}
 use lib.IntN.{ℤ}
 use lib.ListN.{getD, set}
 use Rattle.whole.specs.Lists.{tab}
-use Rattle.av1.specs.Network.{Alg, Step, B, H, step, run, brev, steps, dct}
-
-pub data Both {A C : Type 0} (R : A → C → Type 0) : List A → List C → Type 0 where
-  none : Both R [] []
-  one : {a : A} {b : C} {xs : List A} {us : List C} → R a b → Both R xs us → Both R (a ∷ xs) (b ∷ us)
+use Rattle.whole.specs.Both.{Both, none, one}
+use Rattle.av1.specs.Network.{Alg, Step, B, H, step, run, brev, steps, permuted, dct}
 
 -- of two functions that are related at each place
 pub both-tab : {A C : Type 0} {R : A → C → Type 0} (n : ℕ) (f : ℕ → A) (g : ℕ → C) → ((i : ℕ) → R (f i) (g i)) → Both R (tab n f) (tab n g)
@@ -47,5 +44,8 @@ module _ {A C : Type 0} {𝓐 : Alg A} {𝓑 : Alg C} {R : A → C → Type 0} (
   run-related [] h = h
   run-related (s ∷ ss) h = run-related ss (step-related s h)
 
+  pub permuted-related : (n : ℕ) {xs : List A} {us : List C} → Both R xs us → Both R (permuted 𝓐 n xs) (permuted 𝓑 n us)
+  permuted-related n {xs} {us} h = both-tab (2 ^ n) (λ i. getD xs (brev n i) (𝓐 .none)) (λ i. getD us (brev n i) (𝓑 .none)) (λ i. there h (brev n i))
+
   pub dct-related : (n : ℕ) {xs : List A} {us : List C} → Both R xs us → Both R (dct 𝓐 n xs) (dct 𝓑 n us)
-  dct-related n {xs} {us} h = run-related (steps n) (both-tab (2 ^ n) (λ i. getD xs (brev n i) (𝓐 .none)) (λ i. getD us (brev n i) (𝓑 .none)) (λ i. there h (brev n i)))
+  dct-related n h = run-related (steps n) (permuted-related n h)

@@ -1,5 +1,5 @@
 -- The bounds hold: a step whose test is passed can be run, and the array is then within the next bounds.
-use mathlib.Core.Path.{_≡_, refl, subst}
+use mathlib.Core.Path.{_≡_, refl}
 use mathlib.Core.Bool.{Bool, true, false, _&&_}
 use mathlib.Core.List.{List, [], _∷_}
 use Prim.Native.Nat.{ℕ, _≤_}
@@ -9,12 +9,13 @@ use lib.IntN.{ℤ, pos, natAbs, _+ℤ_, _-ℤ_}
 use lib.Dec.{T, leb, ltb, leb→le, ltb→lt}
 use lib.ListN.{getD}
 use mir.Facts.{and-yes}
-use Rattle.whole.specs.Numbers.{_>>_, round2, clip}
+use Rattle.whole.specs.Numbers.{_>>_, round2}
 use Rattle.whole.specs.Lists.{at}
+use Rattle.whole.specs.Both.{Both}
 use Rattle.whole.proofs.Clips.{clip-abs}
 use Rattle.whole.proofs.Machine.{var, lit, _⊕_, _⊝_, _⊛_, _≫_, bound}
-use Rattle.av1.specs.Network.{Step, B, H, step, run}
-use Rattle.av1.specs.Values.{turnX, turnY, exact, clipped}
+use Rattle.av1.specs.Network.{Step, B, H, step}
+use Rattle.av1.specs.Values.{exact, clipped}
 use Rattle.av1.proofs.Related as Related
 use Rattle.dct.specs.Fitting.{Ends, Turnable, Mixable, Small, sizes, fits, fitting, Able}
 
@@ -37,7 +38,7 @@ module _ {lo hi : ℤ} (ends : Ends lo hi) where
   }
 
 -- an element is as small as its bound allows
-small-at : (t : List ℤ) (β : List ℕ) (most : ℕ) → Related.Both Small t β → (i : ℕ) → T (leb (getD β i 0) most) → natAbs (at t i) ≤ most
+small-at : (t : List ℤ) (β : List ℕ) (most : ℕ) → Both Small t β → (i : ℕ) → T (leb (getD β i 0) most) → natAbs (at t i) ≤ most
 small-at t β most h i k = le-trans (Related.at Small (pos 0) 0 (omega arith) h i) (leb→le (getD β i 0) most k)
 
 pub able-turn : {a b : ℕ} {c s : ℤ} {flip : Bool} {ss : List Step} {t : List ℤ} → Able (B a b c s flip ∷ ss) t → Turnable t a b c s

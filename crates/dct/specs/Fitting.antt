@@ -1,13 +1,13 @@
 -- Bounds through the steps, computed on the steps: that every sum fits 32 bits, and that a turn's inputs are clipped values.
-use mathlib.Core.Bool.{Bool, true, false, _&&_}
+use mathlib.Core.Bool.{Bool, true, _&&_}
 use mathlib.Core.List.{List, [], _∷_}
 use Prim.Native.Nat.{ℕ, suc, _+_, _*_, _/_, _≤_, _<_}
 use lib.IntN.{ℤ, natAbs}
 use lib.Dec.{T, leb, ltb}
 use lib.ListN.{getD}
 use Rattle.whole.specs.Lists.{at}
+use Rattle.whole.specs.Both.{Both}
 use Rattle.av1.specs.Network.{Alg, Step, B, H, step}
-use Rattle.av1.proofs.Related.{Both}
 
 -- the size of a turned number; a clipped one is at most 524288
 abbrev turned : ℕ → ℕ → ℤ → ℤ → ℕ

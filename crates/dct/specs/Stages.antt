@@ -5,10 +5,10 @@ use mathlib.Core.List.{List, [], _∷_, _++_}
 use Prim.Native.Nat.{ℕ}
 use lib.IntN.{ℤ}
 use lib.ListN.{length, replicate}
+use Rattle.whole.specs.Both.{Both}
 use Rattle.av1.specs.Network.{Step, B, H, run}
-use Rattle.av1.specs.Values.{exact, clipped}
-use Rattle.av1.proofs.Related.{Both}
-use Rattle.dct.specs.Halves.{before, last, hits}
+use Rattle.av1.specs.Values.{clipped, hits}
+use Rattle.dct.specs.Halves.{before, last}
 use Rattle.dct.specs.Fitting.{Able, Ends, Small}
 
 -- a, b, a, b, .. and cosine, sine, cosine, sine, ..
@@ -37,7 +37,7 @@ pub record Joined (ss : List Step) (lo hi : ℤ) (t u : List ℤ) (r : Bool) : T
   pub elements : u ≡ run (clipped lo hi) ss t
   pub mark : r ≡ hits lo hi ss t
 
--- what a DCT of 2 ^ suc n points on the work array asks, and gives: the mark is that of the last butterflies
+-- what a DCT of 2 ^ suc n points on the work array asks, and gives: the mark is yes when any of its clips changes a value, the half's included
 abbrev pub small : List ℕ
 small = replicate 32 524288
 
@@ -47,4 +47,4 @@ pub record Ready (t : List ℤ) (lo hi : ℤ) : Type 0 where
 
 pub record Through (n : ℕ) (lo hi : ℤ) (t u : List ℤ) (r : Bool) : Type 0 where
   pub elements : u ≡ run (clipped lo hi) (before n ++ last n) t
-  pub mark : r ≡ hits lo hi (last n) (run (clipped lo hi) (before n) t)
+  pub mark : r ≡ hits lo hi (before n ++ last n) t

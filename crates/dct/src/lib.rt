@@ -1,10 +1,8 @@
 // The DCTs of src/itx_1d.rs on a work array that holds the inputs in bit-reversed order.
 ghost use mathlib.Core.Path.{_≡_};
 ghost use mathlib.Core.List.{_∷_, []};
-ghost use lib.IntN.{ℤ};
 ghost use Rattle.av1.specs.Network as Network;
-ghost use Rattle.av1.specs.Values.{exact, clipped};
-ghost use Rattle.dct.specs.Halves.{hits};
+ghost use Rattle.av1.specs.Values.{exact};
 ghost use Rattle.dct.specs.Fitting.{Turnable, Mixable};
 ghost use Rattle.dct.specs.Stages as Stages;
 use intops::dot;
@@ -78,13 +76,6 @@ fn joins(t: &mut [i32; 32], pairs: &[usize], min: i32, max: i32) -> bool
     mark
 }
 
-// Which clips raise the mark: document 01 counts those alone that store what the pass leaves.
-fn mark_of(inner: bool, last: bool) -> bool
-    ensures { λ r. ⌜ r ≡ last ⌝ }
-{
-    last
-}
-
 // inv_dct4_1d_internal_c with `tx64` 0, on the first four elements. What it leaves is in the order of the outputs.
 pub fn dct4(t: &mut [i32; 32], min: i32, max: i32) -> bool
     requires { ⌜ Stages.Ready (now t) min max ⌝ }
@@ -92,11 +83,10 @@ pub fn dct4(t: &mut [i32; 32], min: i32, max: i32) -> bool
 {
     turns(&mut *t, &[0, 1], &[2896, 2896], true);
     turns(&mut *t, &[2, 3], &[1567, 3784], false);
-    let last = joins(&mut *t, &[0, 3, 1, 2], min, max);
-    mark_of(false, last)
+    joins(&mut *t, &[0, 3, 1, 2], min, max)
 }
 
-// inv_dct8_1d_internal_c: the half on the even inputs, which stand first, the odd ones, and the last butterflies.
+// inv_dct8_1d_internal_c: the half on the even inputs, which stand first, the odd ones, and the last butterflies. Each may raise the mark.
 pub fn dct8(t: &mut [i32; 32], min: i32, max: i32) -> bool
     requires { ⌜ Stages.Ready (now t) min max ⌝ }
     ensures { λ r. ⌜ Stages.Through 2 min max (now (t .entry)) (now (t .exit)) r ⌝ }
@@ -106,7 +96,7 @@ pub fn dct8(t: &mut [i32; 32], min: i32, max: i32) -> bool
     let odd = joins(&mut *t, &[4, 5, 7, 6], min, max);
     turns(&mut *t, &[6, 5], &[2896, 2896], true);
     let last = joins(&mut *t, &[0, 7, 1, 6, 2, 5, 3, 4], min, max);
-    mark_of(half | odd, last)
+    half | odd | last
 }
 
 const TURNS16: [usize; 8] = [8, 15, 9, 14, 10, 13, 11, 12];
@@ -131,7 +121,7 @@ pub fn dct16(t: &mut [i32; 32], min: i32, max: i32) -> bool
     let odd_a = joins(&mut *t, &JOINS16A, min, max);
     turns(&mut *t, &[13, 10, 12, 11], &[2896, 2896, 2896, 2896], true);
     let last = joins(&mut *t, &LAST16, min, max);
-    mark_of(half | odd | odd_a, last)
+    half | odd | odd_a | last
 }
 
 const TURNS32: [usize; 16] = [
@@ -261,5 +251,5 @@ pub fn dct32(t: &mut [i32; 32], min: i32, max: i32) -> bool
     turns(&mut *t, &TURNS32C, &ANGLES32C, true);
     let outer = joins(&mut *t, &OUTER32, min, max);
     let inner = joins(&mut *t, &INNER32, min, max);
-    mark_of(half | odd | odd_a | odd_b, outer | inner)
+    half | odd | odd_a | odd_b | outer | inner
 }

@@ -2,16 +2,16 @@
 use mathlib.Core.Path.{_≡_, refl, sym, ap, _∙_, subst}
 use mathlib.Core.Bool.{Bool, true, false, cond, _&&_, _||_}
 use mathlib.Core.List.{List}
-use Prim.Native.Nat.{ℕ, _*_, _≤_, _<_}
+use Prim.Native.Nat.{ℕ, _*_, _≤_}
 use native.Mathlib.Omega.{arith}
 use borrow.Author.Tests.{ltb-false}
 use lib.Dec.{T, eqb, eqb→eq, leb, lit≤}
-use lib.IntN.{ℤ, natAbs}
+use lib.IntN.{ℤ}
 use lib.ListN.{length}
 use mir.Facts.{and-yes}
 use Rattle.whole.specs.Numbers.{outside, low, high}
 use Rattle.whole.specs.Lists.{at}
-use Rattle.whole.specs.Checks.{Check, accept, refuse}
+use Rattle.whole.specs.Checks.{accept, refuse}
 use Rattle.whole.proofs.Checks.{refuse≢accept, same-accept}
 use Rattle.whole.proofs.Clips.{inside-abs}
 use Rattle.whole.proofs.Counts.{first-none}
@@ -26,13 +26,13 @@ use Rattle.levels.specs.Plans.{among, shift-0, shift-1, shift-2, shift-of, kind
 use Rattle.levels.proofs.Sizes.{plan-of, plan-sided}
 use Rattle.strided.specs.Planes.{in-pixels, rows-outside, lent}
 use Rattle.residual.specs.Blocks.{way}
-use Rattle.residual.specs.Inner.{Sized, Coefs}
+use Rattle.residual.specs.Inner.{Sized}
 use Rattle.residual.proofs.Ends.{row-reach, size}
 use Rattle.itx.specs.declared.Refusal.{Refusal}
 use Rattle.itx.specs.Calls.{Block, Call, Outcome, Meets, verdict, outcome, outcome-of, short, live-rows, by-shortcut, by-passes}
+use Rattle.itx.specs.Demands.{Accepted}
 use Rattle.itx.specs.Answers.{number, place, block, Ready, Passed, Shortened}
 use Rattle.itx.proofs.Sameness.{opened}
-use Rattle.itx.proofs.Verdicts.{Accepted}
 
 -- ---- a plan's kinds fit its sides
 

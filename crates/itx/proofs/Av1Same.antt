@@ -1,29 +1,33 @@
--- Where no clip inside a pass acts, the residual, and with it every pixel, is the AV1 specification's.
-use mathlib.Core.Path.{_≡_, refl, sym, ap, _∙_}
+-- Mark no, hence what the AV1 specification leaves: the residual, and with it the whole outcome of a call.
+use mathlib.Core.Path.{_≡_, refl, sym, ap, ap₂, _∙_}
 use mathlib.Core.Bool.{Bool, true, false, cond, _||_}
-use mathlib.Core.List.{List}
+use mathlib.Core.List.{List, _++_}
 use Prim.Native.Nat.{ℕ, _+_, _*_, _<_, max}
 use borrow.Author.Tests.{ltb-true}
 use lib.Dec.{eqb, ltb}
 use lib.IntN.{ℤ, pos}
+use lib.ListN.{replicate, drop}
 use Rattle.whole.specs.Numbers.{_>>_, round2, clip, low, high}
-use Rattle.whole.specs.Lists.{at, tab, any}
+use Rattle.whole.specs.Lists.{at, any}
+use Rattle.whole.specs.Checks.{Check, accept, refuse}
 use Rattle.whole.proofs.Clips.{or-false}
-use Rattle.whole.proofs.Counts.{tab-ext, none-of-any}
+use Rattle.whole.proofs.Counts.{tab-ext, any-none, none-of-any}
 use Rattle.whole.proofs.Ranges.{by-181}
 use Rattle.av1.specs.Sides.{side}
-use Rattle.itx_1d.specs.Passes.{clip-acts}
-use Rattle.itx_1d.proofs.PassLaws.{av1-pass, pass-av1}
+use Rattle.itx_1d.specs.Calls.{acceptance}
+use Rattle.itx_1d.specs.Passes.{av1-pass}
+use Rattle.itx_1d.proofs.PassLaws.{pass-av1}
 use Rattle.bitdepth.specs.declared.Depth.{Depth}
 use Rattle.bitdepth.specs.declared.Depth.the-variants.{Eight, Ten, Twelve}
 use Rattle.bitdepth.specs.Depths.{row-range, column-range, maximum}
 use Rattle.levels.specs.declared.Plan.{Plan}
 use Rattle.pixels.specs.Adds.{add-pixel}
-use Rattle.itx.specs.Av1.{bit-depth, held, av1-way}
-use Rattle.itx.specs.Calls.{Block, Call, verdict, short, live-rows, by-shortcut, by-passes, outcome-of, outcome}
+use Rattle.itx.specs.Av1.{bit-depth, held, av1-way, av1-outcome}
+use Rattle.itx.specs.Calls.{Block, Call, plain, Outcome, verdict, short, live-rows, by-shortcut, by-passes, outcome-of, outcome}
+use Rattle.itx.specs.Demands.{Accepted, Announced}
 use Rattle.pixels.proofs.Pixels.{rows-ext}
-use Rattle.itx.proofs.Verdicts.{Accepted, accepting}
-use Rattle.residual.specs.Blocks.{entered, row, middle, residual, prescale, if-wht, way}
+use Rattle.itx.proofs.Demand3.{demand-3}
+use Rattle.residual.specs.Blocks.{entered, row, middle, column, residual, marked, prescale, if-wht, way}
 
 -- ---- number by number
 
@@ -42,16 +46,9 @@ module _ (p : Plan) (d : Depth) where
 
 -- ---- the block, with r live rows
 
--- whether a clip inside some pass changes a value
-abbrev pub clips-act : Plan → Depth → List ℤ → ℕ → Bool
-clips-act p d c r =
-    any r (λ y. clip-acts (p .rows) (side (p .w)) (row-range d) (tab (p .w) (entered (way p d) c y)))
-    || any (p .w) (λ x. clip-acts (p .columns) (side (p .h)) (column-range d) (tab (p .h) (λ y. middle (way p d) c r y x)))
-
-module _ (p : Plan) (d : Depth) (c : List ℤ) (r : ℕ) (unclipped : clips-act p d c r ≡ false) where
-  parts : (any r (λ y. clip-acts (p .rows) (side (p .w)) (row-range d) (tab (p .w) (entered (way p d) c y))) ≡ false)
-      × (any (p .w) (λ x. clip-acts (p .columns) (side (p .h)) (column-range d) (tab (p .h) (λ y. middle (way p d) c r y x))) ≡ false)
-  parts = or-false _ _ unclipped
+module _ (p : Plan) (d : Depth) (c : List ℤ) (r : ℕ) (unmarked : marked (way p d) c r ≡ false) where
+  parts : (any r (λ y. row (way p d) c y .mark) ≡ false) × (any (p .w) (λ x. column (way p d) c r x .mark) ≡ false)
+  parts = or-false _ _ unmarked
 
   row-same : (y : ℕ) → y < r → row (way p d) c y .values ≡ row (av1-way p d) c y .values
   row-same y l =
@@ -70,17 +67,39 @@ module _ (p : Plan) (d : Depth) (c : List ℤ) (r : ℕ) (unclipped : clips-act 
       ap (λ (s : List ℤ). way p d .leave (at s y))
       (pass-av1 (side (p .h)) (column-range d) _ (p .columns) (none-of-any (p .w) _ (parts .1) x l) ∙ ap (av1-pass (p .columns) (side (p .h))) (tab-ext (p .h) _ _ (λ y k. middle-same y x)))
 
--- ---- the call: what the specification's way leaves
+-- ---- the call
 
-module _ (call : Call) (b : Block) (p : Plan) (d : Depth) (a : Accepted call b p d) (unclipped : clips-act p d (b .coefs) (live-rows call p) ≡ false) where
-  pub pixels-av1 : outcome-of av1-way call b (verdict call b) .pixels ≡ outcome call b .pixels
+-- o′ for o, where the shortcut s is not taken
+instead : (t : Bool) (s o o′ : Outcome) → (o .answer .mark ≡ false → o ≡ o′) → cond t s o .answer .mark ≡ false → cond t s o ≡ cond t s o′
+instead true s o o′ f e = refl
+instead false s o o′ f e = f e
+
+module _ (b : Block) where
+  passes-av1 : (p : Plan) (d : Depth) (r : ℕ) → marked (way p d) (b .coefs) r ≡ false → by-passes b p d (way p d) r ≡ by-passes b p d (av1-way p d) r
+  passes-av1 p d r e =
+      let 𝓦 = av1-way p d in
+      let c = b .coefs in
+      let n = p .w * p .h in
+      let none = ap₂ (λ s t. s || t) (any-none r (λ y. row 𝓦 c y .mark) (λ y l. refl)) (any-none (p .w) (λ x. column 𝓦 c r x .mark) (λ x l. refl)) in
+      λ i. record {
+        answer = acceptance ((e ∙ sym none) i);
+        pixels = rows-ext (b .plane) (maximum d) (residual (way p d) c r) (residual 𝓦 c r) (p .w) (p .h)
+            (λ y x k l. ap (add-pixel (maximum d) _) (residual-av1 p d c r e y x l)) i;
+        coefs = replicate n (pos 0) ++ drop n c;
+      }
+
+  -- what may be announced of an accepted block, the shortcut too: its mark is that of the long way, by demand 3
+  pub announced-av1 : (p : Plan) (d : Depth) → Accepted (plain (pos 0)) b p d → {call : Call} → Announced b p d call
+      → outcome call b .answer .mark ≡ false → outcome call b ≡ av1-outcome b p d
+  announced-av1 p d good a e =
+      let same = demand-3 b p d good a in
+      same ∙ passes-av1 p d (p .h) (sym (ap (λ (o : Outcome). o .answer .mark) same) ∙ e)
+
+  -- every call on every block, refused ones too, by the specification's passes; where the shortcut is taken it is on both sides
+  pub unmarked-av1 : (call : Call) → outcome call b .answer .mark ≡ false → outcome call b ≡ outcome-of av1-way call b (verdict call b)
   unfolding outcome
-  pixels-av1 =
-      ap (λ v. outcome-of av1-way call b v .pixels) (accepting call b p d a) ∙ go (short call p)
-      ∙ sym (ap (λ v. outcome-of way call b v .pixels) (accepting call b p d a))
+  unmarked-av1 call = left (verdict call b)
     where
-      go : (t : Bool) → cond t (by-shortcut b p d) (by-passes b p d (av1-way p d) (live-rows call p)) .pixels ≡ cond t (by-shortcut b p d) (by-passes b p d (way p d) (live-rows call p)) .pixels
-      go true = refl
-      go false =
-          rows-ext (b .plane) (maximum d) (residual (av1-way p d) (b .coefs) (live-rows call p)) (residual (way p d) (b .coefs) (live-rows call p)) (p .w) (p .h)
-          (λ y x k l. ap (add-pixel (maximum d) _) (sym (residual-av1 p d (b .coefs) (live-rows call p) unclipped y x l)))
+      left : (v : Check (Plan × Depth)) → outcome-of way call b v .answer .mark ≡ false → outcome-of way call b v ≡ outcome-of av1-way call b v
+      left (refuse n i) e = refl
+      left (accept (p, d)) e = instead (short call p) (by-shortcut b p d) _ _ (passes-av1 p d (live-rows call p)) e

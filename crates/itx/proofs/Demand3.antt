@@ -1,39 +1,18 @@
 -- Demand 3 in one statement: whatever is announced of an accepted block, the outcome is the same.
 use mathlib.Core.Path.{_≡_, sym, ap, _∙_, subst}
-use mathlib.Core.Bool.{false}
-use Prim.Native.Nat.{ℕ, suc, _*_, _≤_, _<_}
+use Prim.Native.Nat.{suc}
 use lib.IntN.{pos}
-use lib.ListN.{getD}
-use Rattle.whole.specs.Lists.{at}
 use Rattle.whole.proofs.Checks.{same-accept}
 use Rattle.itx_1d.specs.declared.Kind.{Kind}
 use Rattle.itx_1d.specs.declared.Kind.the-variants.{Dct}
 use Rattle.bitdepth.specs.declared.Depth.{Depth}
-use Rattle.bitdepth.specs.Depths.{maximum}
 use Rattle.levels.specs.declared.Plan.{Plan}
 use Rattle.levels.specs.Plans.{kinds-of}
 use Rattle.levels.proofs.Sizes.{plan-of}
-use Rattle.strided.specs.Planes.{place}
-use Rattle.itx.specs.Calls.{Block, Call, plain, live, short, outcome}
-use Rattle.coefs.specs.Coefs.{Covers}
-use Rattle.itx.proofs.Sameness.{whole, live-whole, plain-whole, zero-whole, with-eob, with-rows}
+use Rattle.itx.specs.Calls.{Block, Call, plain, outcome}
+use Rattle.itx.specs.Demands.{Accepted, Alone, Small, whole, Announced, eob, rows, other-type, first-only}
+use Rattle.itx.proofs.Sameness.{live-whole, plain-whole, zero-whole, with-eob, with-rows}
 use Rattle.itx.proofs.Shortcut.{dct-dct, shortcut-whole}
-use Rattle.itx.proofs.Verdicts.{Accepted}
-
--- nothing is nonzero after the first coefficient
-abbrev pub Alone : Block → Plan → Type 0
-Alone b p = (i : ℕ) → 0 < i → i < p .w * p .h → at (b .coefs) i ≡ pos 0
-
--- no pixel of the block exceeds the maximum
-abbrev pub Small : Block → Plan → Depth → Type 0
-Small b p d = (y x : ℕ) → y < p .h → x < p .w → getD (b .plane .pixels) (place (b .plane) y x) 0 ≤ maximum d
-
--- what may be announced
-pub data Announced (b : Block) (p : Plan) (d : Depth) : Call → Type 0 where
-  eob : (n : ℕ) → Announced b p d (plain (pos (suc n)))
-  rows : (r : ℕ) → 1 ≤ r → r ≤ p .h → Covers (p .w) (p .h) (b .coefs) r → Announced b p d (live r)
-  other-type : short (plain (pos 0)) p ≡ false → Announced b p d (plain (pos 0))
-  first-only : b .type ≡ 0 → Alone b p → Small b p d → Announced b p d (plain (pos 0))
 
 module _ (b : Block) (p : Plan) (d : Depth) (good : Accepted (plain (pos 0)) b p d) where
   -- type 0 is DCT_DCT

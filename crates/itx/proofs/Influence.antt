@@ -24,9 +24,10 @@ use Rattle.residual.specs.Blocks.{Way, entered, row, middle, column, residual, 
 use Rattle.coefs.specs.Coefs.{nonzero}
 use Rattle.pixels.specs.Adds.{add-pixel}
 use Rattle.itx.specs.Calls.{Block, Call, plain, live, bad-eob, bad-rows, stray, checks, verdict, short, live-rows, outcome-of, outcome}
+use Rattle.itx.specs.Demands.{Accepted}
 use Rattle.itx.proofs.Outcomes.{added, answer-is, pixel-rule}
 use Rattle.itx.proofs.Sameness.{live-inside, area-positive}
-use Rattle.itx.proofs.Verdicts.{Accepted, accepting, accepted-by}
+use Rattle.itx.proofs.Verdicts.{accepting, accepted-by}
 
 -- ---- the transform reads the first w·h coefficients
 

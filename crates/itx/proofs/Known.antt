@@ -1,4 +1,4 @@
--- Known results of document 01: all cases of the list, by one computation.
+-- Known results of documents 01 and 02: all cases of the list, by one computation.
 use mathlib.Core.Path.{_≡_, refl}
 use mathlib.Core.List.{List, [], _∷_, map}
 use Rattle.whole.specs.Numbers as Numbers
@@ -28,6 +28,6 @@ along : (f g : Case → Result) (cs : List Case) → map f cs ≡ map g cs → A
 along f g [] e = tt
 along f g (c ∷ cs) e = (cc, along f g cs (cc))
 
--- those marked * in document 01
+-- those marked * in document 01, and E4's
 pub known : All holds cases
 known = along computed expected cases all-computed

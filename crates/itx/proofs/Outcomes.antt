@@ -20,9 +20,9 @@ use Rattle.strided.specs.Planes.{place}
 use Rattle.residual.specs.Blocks.{residual, marked, way, shortcut}
 use Rattle.pixels.specs.Adds.{add-pixel, add-rows}
 use Rattle.itx.specs.Calls.{Block, Call, verdict, Outcome, short, live-rows, by-shortcut, by-passes, outcome-of, outcome, Meets}
+use Rattle.itx.specs.Demands.{Accepted}
 use Rattle.pixels.proofs.Pixels.{rows-length, pixel-kept, pixel-set}
 use Rattle.itx.proofs.Sameness.{opened, area-positive}
-use Rattle.itx.proofs.Verdicts.{Accepted}
 
 -- ---- an accepted call
 

@@ -22,10 +22,11 @@ use Rattle.residual.specs.Blocks.{way, residual}
 use Rattle.coefs.specs.Coefs.{nonzero}
 use Rattle.pixels.specs.Adds.{add-pixel}
 use Rattle.itx.specs.Calls.{Block, Call, plain, live, bad-rows, stray, checks, verdict, Outcome, short, live-rows, by-shortcut, by-passes, outcome-of, outcome}
+use Rattle.itx.specs.Demands.{Accepted, whole}
 use Rattle.coefs.specs.Coefs.{Covers}
 use Rattle.itx.proofs.LiveRows.{quiet, residual-same, marked-same}
 use Rattle.pixels.proofs.Pixels.{rows-ext}
-use Rattle.itx.proofs.Verdicts.{Accepted, accepting}
+use Rattle.itx.proofs.Verdicts.{accepting}
 
 -- ---- covering, by rows and by places
 
@@ -67,11 +68,7 @@ live-inside (live r) b p d a = leb-true r (p .h) (second-true (leb 1 r) (leb r (
 -- ---- the theorems, for a block that the plain call accepts
 
 module _ (b : Block) (p : Plan) (d : Depth) where
-  -- all rows passed over
-  abbrev pub whole : Outcome
-  whole = by-passes b p d (way p d) (p .h)
-
-  pub rows-whole : (r : ℕ) → Sided (p .w) → r ≤ p .h → Covers (p .w) (p .h) (b .coefs) r → by-passes b p d (way p d) r ≡ whole
+  pub rows-whole : (r : ℕ) → Sided (p .w) → r ≤ p .h → Covers (p .w) (p .h) (b .coefs) r → by-passes b p d (way p d) r ≡ whole b p d
   rows-whole r s l k =
       let 𝓦 = way p d in
       let n = p .w * p .h in
@@ -96,17 +93,17 @@ module _ (b : Block) (p : Plan) (d : Depth) where
     unfolding outcome
     opened = ap (outcome-of way call b) (accepting call b p d a)
 
-  pub live-whole : (r : ℕ) → Accepted (live r) b p d → outcome (live r) b ≡ whole
+  pub live-whole : (r : ℕ) → Accepted (live r) b p d → outcome (live r) b ≡ whole b p d
   live-whole r a =
       opened (live r) a
       ∙ rows-whole r (sides (live r) a .0) (live-inside (live r) b p d a) (covers-of (p .w) (p .h) (h-positive (live r) a) (b .coefs) r (a .covered))
 
-  pub plain-whole : (n : ℕ) → Accepted (plain (pos (suc n))) b p d → outcome (plain (pos (suc n))) b ≡ whole
+  pub plain-whole : (n : ℕ) → Accepted (plain (pos (suc n))) b p d → outcome (plain (pos (suc n))) b ≡ whole b p d
   plain-whole n a = opened (plain (pos (suc n))) a
 
   -- eob 0 with another type than DCT_DCT takes the long way too
-  pub zero-whole : short (plain (pos 0)) p ≡ false → Accepted (plain (pos 0)) b p d → outcome (plain (pos 0)) b ≡ whole
-  zero-whole e a = opened (plain (pos 0)) a ∙ ap (λ (t : Bool). cond t (by-shortcut b p d) whole) e
+  pub zero-whole : short (plain (pos 0)) p ≡ false → Accepted (plain (pos 0)) b p d → outcome (plain (pos 0)) b ≡ whole b p d
+  zero-whole e a = opened (plain (pos 0)) a ∙ ap (λ (t : Bool). cond t (by-shortcut b p d) (whole b p d)) e
 
   module _ (good : Accepted (plain (pos 0)) b p d) where
     -- with any eob, and with any covering count

@@ -30,11 +30,11 @@ use Rattle.strided.specs.Planes.{place}
 use Rattle.residual.specs.Blocks.{Way, way, entered, row, middle, column, residual, marked, prescale, shortcut}
 use Rattle.pixels.specs.Adds.{add-pixel, add-rows}
 use Rattle.itx.specs.Calls.{Block, plain, by-shortcut, by-passes, outcome}
+use Rattle.itx.specs.Demands.{Accepted, Alone, Small, whole}
 use Rattle.coefs.specs.Coefs.{Covers}
 use Rattle.itx.proofs.LiveRows.{prescale-zero}
 use Rattle.pixels.proofs.Pixels.{pixel-waits, rows-ext}
-use Rattle.itx.proofs.Sameness.{whole, rows-whole, sides, area-positive, opened}
-use Rattle.itx.proofs.Verdicts.{Accepted}
+use Rattle.itx.proofs.Sameness.{rows-whole, sides, area-positive, opened}
 
 -- the DCT_DCT plan of a size
 abbrev pub dct-dct : ℕ → ℕ → ℕ → Plan
@@ -149,9 +149,8 @@ cleared (suc n) (x ∷ c) g l z = ap (λ (s : List ℤ). pos 0 ∷ s) (sym (zero
 
 -- ---- the theorem
 
-module _ (b : Block) (w h s : ℕ) (d : Depth) (good : Accepted (plain (pos 0)) b (dct-dct w h s) d)
-    (alone : (i : ℕ) → 0 < i → i < w * h → at (b .coefs) i ≡ pos 0)
-    (small : (y x : ℕ) → y < h → x < w → getD (b .plane .pixels) (place (b .plane) y x) 0 ≤ maximum d) where
+module _ (b : Block) (w h s : ℕ) (d : Depth) (good : Accepted (plain (pos 0)) b (dct-dct w h s) d) (alone : Alone b (dct-dct w h s))
+    (small : Small b (dct-dct w h s) d) where
   abbrev plan-here : Plan
   plan-here = dct-dct w h s
 

@@ -1,32 +1,13 @@
 -- A call is accepted just when no number of the table holds.
 use mathlib.Core.Path.{_≡_, ap, _∙_, subst}
-use mathlib.Core.Bool.{false}
-use mathlib.Core.Option.{none}
-use Prim.Native.Nat.{_*_}
-use lib.Dec.{ltb}
-use lib.ListN.{length}
-use Rattle.whole.specs.Numbers.{outside, low, high}
-use Rattle.whole.specs.Lists.{at, first}
 use Rattle.whole.specs.Checks.{accept, then, unless, unless-at}
 use Rattle.whole.proofs.Checks.{open-then, open-unless, open-at, same-accept}
 use Rattle.bitdepth.specs.declared.Depth.{Depth}
-use Rattle.bitdepth.specs.Depths.{depth, row-range}
+use Rattle.bitdepth.specs.Depths.{depth}
 use Rattle.levels.specs.declared.Plan.{Plan}
 use Rattle.levels.specs.Plans.{plan}
-use Rattle.strided.specs.Planes.{bad-stride, row-outside}
-use Rattle.itx.specs.Calls.{Block, Call, bad-eob, bad-rows, stray, checks, verdict}
-
--- none of the numbers 1 to 10 holds
-pub record Accepted (call : Call) (b : Block) (p : Plan) (d : Depth) : Type 0 where
-  pub planned : plan (b .w) (b .h) (b .type) ≡ accept p
-  pub deep : depth (b .depth) ≡ accept d
-  pub eob : bad-eob call ≡ false
-  pub rows : bad-rows call (p .h) ≡ false
-  pub enough : ltb (length (b .coefs)) (p .w * p .h) ≡ false
-  pub stride : bad-stride (p .w) (b .plane .stride) ≡ false
-  pub inside : row-outside (p .w) (p .h) (b .plane) ≡ false
-  pub ranged : first (p .w * p .h) (λ i. outside (at (b .coefs) i) (low (row-range d)) (high (row-range d))) ≡ none
-  pub covered : first (p .w * p .h) (stray call (p .h) (b .coefs)) ≡ none
+use Rattle.itx.specs.Calls.{Block, Call, checks, verdict}
+use Rattle.itx.specs.Demands.{Accepted}
 
 module _ (call : Call) (b : Block) where
   pub accepting : (p : Plan) (d : Depth) → Accepted call b p d → verdict call b ≡ accept (p, d)

@@ -1,15 +1,16 @@
--- The two-dimensional inverse transform of the AV1 specification, section 7.13.3: no clip inside a pass.
+-- The two-dimensional inverse transform of the AV1 specification, section 7.13.3: no clip inside a pass, no shortcut, no live rows.
 use mathlib.Core.Bool.{false, cond, _||_}
 use Prim.Native.Nat.{ℕ, _+_, _-_, _*_, _^_, max}
 use lib.Dec.{eqb}
 use lib.IntN.{ℤ, pos, _*ℤ_}
 use Rattle.whole.specs.Numbers.{_>>_, round2, clip, low, high}
 use Rattle.av1.specs.Sides.{side}
-use Rattle.itx_1d.proofs.PassLaws.{av1-pass}
+use Rattle.itx_1d.specs.Passes.{av1-pass}
 use Rattle.bitdepth.specs.declared.Depth.{Depth}
 use Rattle.bitdepth.specs.declared.Depth.the-variants.{Eight, Ten, Twelve}
 use Rattle.levels.specs.declared.Plan.{Plan}
 use Rattle.residual.specs.Blocks.{Way, if-wht}
+use Rattle.itx.specs.Calls.{Block, Outcome, by-passes}
 
 abbrev pub bit-depth : Depth → ℕ
 bit-depth Eight = 8
@@ -32,3 +33,7 @@ av1-way p d = record {
   column = λ xs. record { values = av1-pass (p .columns) (side (p .h)) xs; mark = false };
   leave = λ v. if-wht (p .columns) v (round2 v 4);
 }
+
+-- what it leaves of an accepted block, whatever call and eob
+abbrev pub av1-outcome : Block → Plan → Depth → Outcome
+av1-outcome b p d = by-passes b p d (av1-way p d) (p .h)

@@ -1,4 +1,4 @@
--- Document 01, "Known results": those marked *, as a list of cases. "Depth 8 and pixels all 100 where not said."
+-- Document 01, "Known results": those marked *, and the one of request E4, as a list of cases. "Depth 8 and pixels all 100 where not said."
 use mathlib.Core.Path.{_≡_}
 use mathlib.Core.Bool.{Bool, true, false}
 use mathlib.Core.List.{List, [], _∷_, _++_}
@@ -6,7 +6,7 @@ use Prim.Native.Nat.{ℕ, _*_, _-_}
 use lib.IntN.{ℤ, pos, negℤ}
 use lib.ListN.{replicate}
 use Rattle.whole.specs.Numbers.{low, high}
-use Rattle.av1.specs.Sides.{Side, of4, of16}
+use Rattle.av1.specs.Sides.{Side, of4, of8, of16}
 use Rattle.itx_1d.specs.declared.Kind.{Kind}
 use Rattle.itx_1d.specs.declared.Kind.the-variants.{Dct, Identity, Wht}
 use Rattle.itx_1d.specs.Calls as Passes
@@ -88,6 +88,8 @@ cases =
     ∷ passes Dct of4 (pos 64 ∷ zeros 3) (replicate 4 (pos 45)) false
     ∷ passes Dct of4 (pos 0 ∷ pos 64 ∷ zeros 2) (pos 59 ∷ pos 24 ∷ neg 24 ∷ neg 59 ∷ []) false
     ∷ passes Dct of4 (pos 32767 ∷ pos 32767 ∷ zeros 2) (pos 32767 ∷ pos 32767 ∷ pos 10631 ∷ neg 7104 ∷ []) true
+    ∷ passes Dct of8 (pos 0 ∷ pos 32767 ∷ pos 0 ∷ pos 32767 ∷ zeros 4)
+    (pos 32767 ∷ pos 20848 ∷ neg 13936 ∷ neg 11815 ∷ pos 11815 ∷ pos 13936 ∷ neg 20848 ∷ neg 32767 ∷ []) true
     ∷ passes Wht of4 (pos 2 ∷ zeros 3) (replicate 4 (pos 1)) false
     ∷ passes Wht of4 (zeros 3 ++ (pos 1 ∷ [])) (pos 1 ∷ neg 1 ∷ pos 0 ∷ neg 1 ∷ []) false
     ∷ adds 4 4 dct-dct 64 0 (each 16 102)

@@ -2,4 +2,5 @@
 pub mod Calls
 pub mod Av1
 pub mod Answers
+pub mod Demands
 pub mod Known

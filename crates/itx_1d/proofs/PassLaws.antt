@@ -1,6 +1,6 @@
 -- Laws of a pass, each for every kind and every length.
 use mathlib.Core.Path.{_≡_, refl, sym, ap, _∙_, subst⁻¹}
-use mathlib.Core.Bool.{Bool, true, false}
+use mathlib.Core.Bool.{true, false}
 use mathlib.Core.List.{List, [], _∷_, map}
 use Prim.Native.Nat.{ℕ, zero, suc, _+_, _*_, _-_, _^_, _≤_}
 use native.Mathlib.Nat.{le-trans}
@@ -16,17 +16,14 @@ use Rattle.whole.proofs.Parts.{rep-self, rep-add, rep-mul}
 use Rattle.whole.proofs.Ranges.{zero-inside, range-abs, scaled, round-floor, scaled-inside, by-181}
 use Rattle.av1.specs.Sides.{Side, of4, of8, of16, of32, len, bits}
 use Rattle.av1.specs.Network.{Alg, Step, B, H, step, run, brev, steps, permuted, dct}
-use Rattle.av1.specs.Values.{Marked, unmarked, values, marks, marked, clipped, stored-only, all-along}
-use Rattle.av1.specs.Passes.{av1-dct, av1-identity, av1-wht}
+use Rattle.av1.specs.Values.{exact, clipped}
+use Rattle.av1.specs.Passes.{av1-identity, av1-wht}
 use Rattle.av1.proofs.Known as Known
-use Rattle.av1.proofs.Unclipped.{marked-values, unclipped}
-use Rattle.itx_1d.specs.Passes.{Passed, stepped, identity, wht, pass, clip-acts}
+use Rattle.av1.proofs.Unclipped.{unclipped}
+use Rattle.itx_1d.specs.Passes.{Passed, identity, wht, pass, av1-pass}
+use Rattle.itx_1d.specs.Passes as Passes
 use Rattle.itx_1d.specs.declared.Kind.{Kind}
 use Rattle.itx_1d.specs.declared.Kind.the-variants.{Dct, Identity, Wht}
-
--- what the mark of `pass` keeps
-abbrev keeping : Bool → Bool → Bool
-keeping = stored-only
 
 -- ---- one number first and nothing else
 
@@ -35,39 +32,26 @@ abbrev pub only : ℤ → ℕ → ℤ
 only d zero = d
 only d (suc i) = pos 0
 
-first-only : (n : Side) (d : ℤ) → map unmarked (tab (len n) (only d)) ≡ unmarked d ∷ replicate (len n - 1) (unmarked (pos 0))
+first-only : (n : Side) (d : ℤ) → tab (len n) (only d) ≡ d ∷ replicate (len n - 1) (pos 0)
 first-only of4 d = refl
 first-only of8 d = refl
 first-only of16 d = refl
 first-only of32 d = refl
-
--- marked numbers as a pass leaves them
-abbrev passed : List Marked → Passed
-passed ms = record { values = values ms; mark = marks ms }
-
-passed-all : (k : ℕ) (z : ℤ) → passed (replicate k (unmarked z)) ≡ record { values = replicate k z; mark = false }
-passed-all zero z = refl
-passed-all (suc k) z = ap (λ (p : Passed). record { values = z ∷ p .values; mark = p .mark }) (passed-all k z)
 
 module _ (n : Side) (m : ℕ) (d : ℤ) (d-inside : outside d (low m) (high m) ≡ false) where
   -- 181d + 128 >> 8
   abbrev level : ℤ
   level = round2 (d *ℤ pos 181) 8
 
-  -- for either meaning of a mark
-  dc-stepped : (keeps : Bool → Bool → Bool) → keeps false false ≡ false → stepped keeps n m (tab (len n) (only d)) ≡ replicate (len n) (unmarked level)
-  dc-stepped keeps quiet =
-      ap (dct (marked keeps (low m) (high m)) (bits n)) (first-only n d)
-      ∙ Known.dc keeps quiet (low m) (high m) d (zero-inside m) (ap (λ (z : ℤ). outside z (low m) (high m)) (by-181 d) ∙ scaled-inside m d d-inside) n
-      ∙ ap (λ (z : ℤ). replicate (len n) (unmarked z)) (by-181 d)
+  spread-inside : outside (round2 (d *ℤ pos 2896) 12) (low m) (high m) ≡ false
+  spread-inside = ap (λ (z : ℤ). outside z (low m) (high m)) (by-181 d) ∙ scaled-inside m d d-inside
 
   pub dc-pass : pass Dct n m (tab (len n) (only d)) ≡ record { values = replicate (len n) level; mark = false }
   unfolding pass
-  dc-pass = ap passed (dc-stepped keeping refl) ∙ passed-all (len n) level
-
-  pub dc-unclipped : clip-acts Dct n m (tab (len n) (only d)) ≡ false
-  unfolding clip-acts
-  dc-unclipped = ap (λ (p : Passed). p .mark) (ap passed (dc-stepped all-along refl) ∙ passed-all (len n) level)
+  dc-pass =
+      let all = Known.dc (low m) (high m) d (zero-inside m) spread-inside n ∙ ap (replicate (len n)) (by-181 d) in
+      let quiet = Known.dc-quiet (low m) (high m) d (zero-inside m) spread-inside n in
+      ap (Passes.dct n m) (first-only n d) ∙ (λ i. record { values = all i; mark = quiet i })
 
 -- ---- nothing at all
 
@@ -117,19 +101,7 @@ module _ (n : Side) (m : ℕ) where
   zero-unmarked Identity = refl
   zero-unmarked Wht = refl
 
-  pub zero-unclipped : (k : Kind) → clip-acts k n m (zeros (len n)) ≡ false
-  unfolding clip-acts
-  zero-unclipped Dct = ap (clip-acts Dct n m) (only-zero (len n)) ∙ dc-unclipped n m (pos 0) (zero-inside m)
-  zero-unclipped Identity = refl
-  zero-unclipped Wht = refl
-
 -- ---- the specification
-
--- section 7.13.2 by kind
-abbrev pub av1-pass : Kind → Side → List ℤ → List ℤ
-av1-pass Dct n xs = av1-dct n xs
-av1-pass Identity n xs = map (av1-identity n) xs
-av1-pass Wht n xs = av1-wht xs
 
 identity-one : (n : Side) (v : ℤ) → identity n v ≡ av1-identity n v
 unfolding identity Rattle.av1.specs.Passes.av1-identity
@@ -164,14 +136,10 @@ module _ (n : Side) (m : ℕ) (xs : List ℤ) where
   unfolding pass wht Rattle.av1.specs.Passes.av1-wht
   wht-av1 = refl
 
-  dct-values : pass Dct n m xs .values ≡ dct (clipped (low m) (high m)) (bits n) xs
+  -- mark no, hence the specification's values
+  pub pass-av1 : (k : Kind) → pass k n m xs .mark ≡ false → pass k n m xs .values ≡ av1-pass k n xs
   unfolding pass
-  dct-values = marked-values (low m) (high m) keeping (bits n) xs
-
-  -- where no clip inside acts
-  pub pass-av1 : (k : Kind) → clip-acts k n m xs ≡ false → pass k n m xs .values ≡ av1-pass k n xs
-  unfolding clip-acts
-  pass-av1 Dct e = dct-values ∙ unclipped (low m) (high m) (bits n) xs e
+  pass-av1 Dct e = unclipped (low m) (high m) (steps (bits n)) (permuted exact (bits n) xs) e
   pass-av1 Identity e = identity-av1
   pass-av1 Wht e = wht-av1
 
@@ -220,11 +188,9 @@ module _ (n : Side) (m : ℕ) (xs : List ℤ) where
   pub dct-in-range : (i : ℕ) → outside (at (pass Dct n m xs .values) i) (low m) (high m) ≡ false
   unfolding pass round2 _>>_
   dct-in-range i =
-      let input : ℕ → Marked = λ i. getD (map unmarked xs) (brev (bits n) i) (unmarked (pos 0)) in
-      let after : ℕ → List Marked = λ k. run (marked keeping (low m) (high m)) (steps (bits n)) (tab k input) in
-      ap (λ (z : ℤ). outside z (low m) (high m)) (map-at (λ (u : Marked). u .v) (after (2 ^ bits n)) i (unmarked (pos 0)))
-      ∙ ap (λ (k : ℕ). outside (getD (after k) i (unmarked (pos 0)) .v) (low m) (high m)) (len-power n)
-      ∙ Known.in-range keeping refl (low m) (high m) (pos 0) (zero-inside m) (zero-inside m) n input i
+      let input : ℕ → ℤ = λ i. at xs (brev (bits n) i) in
+      ap (λ (k : ℕ). outside (at (run (clipped (low m) (high m)) (steps (bits n)) (tab k input)) i) (low m) (high m)) (len-power n)
+      ∙ Known.in-range (low m) (high m) (pos 0) (zero-inside m) (zero-inside m) n input i
 
   -- what a pass leaves of numbers up to k, with a range up to k
   pub pass-small : (kind : Kind) (k : ℕ) → m ≤ k → ((i : ℕ) → natAbs (at xs i) ≤ k) → (i : ℕ) → natAbs (at (pass kind n m xs .values) i) ≤ 5 * k + 2
@@ -241,6 +207,6 @@ module _ (n : Side) (m : ℕ) (xs : List ℤ) where
 
   pub pass-length : (kind : Kind) → length xs ≡ len n → length (pass kind n m xs .values) ≡ left kind
   unfolding pass wht
-  pass-length Dct e = map-length (λ (u : Marked). u .v) (stepped keeping n m xs) ∙ dct-length (marked keeping (low m) (high m)) n (map unmarked xs)
+  pass-length Dct e = dct-length (clipped (low m) (high m)) n xs
   pass-length Identity e = map-length (identity n) xs ∙ e
   pass-length Wht e = refl

@@ -1,29 +1,27 @@
 -- The DCT on the work array is document 01's pass on the elements.
 use mathlib.Core.Path.{_≡_, refl, sym, ap, _∙_, subst, subst⁻¹}
-use mathlib.Core.Logic.{_≢_}
 use mathlib.Core.Bool.{Bool, cond}
-use mathlib.Core.List.{List, [], _∷_, _++_, map}
+use mathlib.Core.List.{List, [], _∷_, _++_}
 use Prim.Native.Nat.{ℕ, zero, suc, _+_, _*_, _-_, _≤_, _<_}
 use native.Mathlib.Omega.{arith}
 use lib.IntN.{ℤ, pos, natAbs}
-use lib.ListN.{getD, replicate, set}
+use lib.ListN.{replicate, set}
 use borrow.Author.Tests.{ne-eqb}
 use mir.Syntax.{w32}
 use mir.Val.{SFits, toZ, ofZ}
-use mir.ValLaws.{toZ-ofZ}
 use Rattle.whole.specs.Numbers.{low, high}
 use Rattle.whole.specs.Lists.{at, tab}
+use Rattle.whole.specs.Both.{Both, none, one}
 use Rattle.av1.specs.Sides.{Side, of4, of8, of16, of32, len, bits, side}
 use Rattle.av1.specs.Network.{permuted, run, steps}
-use Rattle.av1.specs.Values.{clipped, Marked, unmarked, marked, values, marks, stored-only}
-use Rattle.av1.proofs.Related.{Both, none, one}
-use Rattle.dct.specs.Halves.{before, last, hits}
+use Rattle.av1.specs.Values.{clipped, hits}
+use Rattle.dct.specs.Halves.{before, last}
 use Rattle.dct.specs.Fitting.{Small, Ends}
 use Rattle.dct.specs.Stages.{Through, small}
-use Rattle.dct.proofs.Order.{order, marked-last, out}
+use Rattle.dct.proofs.Order.{order, mark-order}
 use Rattle.dct.proofs.Walk.{read-back}
 use Rattle.itx_1d.specs.declared.Kind.the-variants.{Dct}
-use Rattle.itx_1d.specs.Passes.{Passed, pass}
+use Rattle.itx_1d.specs.Passes.{pass}
 use Rattle.itx_1d.specs.Calls.{taken, put}
 use Rattle.itx_1d.specs.Inner.{source, gathered, Passable, Ranged, PassIs}
 use Rattle.itx_1d.proofs.Strides.{source-at, at-most-32}
@@ -74,7 +72,7 @@ abbrev element : List ℤ → ℕ → Side → ℕ → ℤ
 element c s k i = at c (source (len k) i * s)
 
 -- bit-reversed order is that of the table of section 7.13.2.3
-reversed : (lo hi : ℤ) (k : Side) (c : List ℤ) (s : ℕ) → tab (len k) (λ i. unmarked (element c s k i)) ≡ permuted (marked stored-only lo hi) (bits k) (map unmarked (taken c s (len k)))
+reversed : (lo hi : ℤ) (k : Side) (c : List ℤ) (s : ℕ) → tab (len k) (element c s k) ≡ permuted (clipped lo hi) (bits k) (taken c s (len k))
 reversed lo hi of4 c s = refl
 reversed lo hi of8 c s = refl
 reversed lo hi of16 c s = refl
@@ -84,20 +82,21 @@ module _ (k : Side) (m : ℕ) (c : List ℤ) (s : ℕ) {u : List ℤ} {r : Bool}
   dct-values : put c s u (len k) ≡ put c s (pass Dct k m (taken c s (len k)) .values) (len k)
   unfolding pass
   dct-values =
+      let ran : List ℤ → List ℤ = run (clipped (low m) (high m)) (steps (bits k)) in
       put-ext c s u (pass Dct k m (taken c s (len k)) .values)
-      (λ i. ap (λ (l : List ℤ). at l i) (t .elements ∙ order (low m) (high m) k (element c s k)) ∙ at-padded (values (out (low m) (high m) k (element c s k))) (32 - len k) i
-      ∙ ap (λ (l : List Marked). at (values (run (marked stored-only (low m) (high m)) (steps (bits k)) l)) i) (reversed (low m) (high m) k c s)) (len k)
+      (λ i. ap (λ (l : List ℤ). at l i) (t .elements ∙ order (clipped (low m) (high m)) k (element c s k))
+      ∙ at-padded (ran (tab (len k) (element c s k))) (32 - len k) i ∙ ap (λ (l : List ℤ). at (ran l) i) (reversed (low m) (high m) k c s)) (len k)
 
   dct-mark : r ≡ pass Dct k m (taken c s (len k)) .mark
   unfolding pass
-  dct-mark = t .mark ∙ marked-last (low m) (high m) k (element c s k) ∙ ap (λ (l : List Marked). marks (run (marked stored-only (low m) (high m)) (steps (bits k)) l)) (reversed (low m) (high m) k c s)
+  dct-mark = t .mark ∙ mark-order (low m) (high m) k (element c s k) ∙ ap (hits (low m) (high m) (steps (bits k))) (reversed (low m) (high m) k c s)
 
 -- ---- a callee's ends, and the length that is none of the first three
 
 pub through-held : {n : ℕ} {lo hi : ℤ} {t u : List ℤ} {r : Bool} → SFits w32 lo → SFits w32 hi → Through n (toZ w32 (ofZ w32 lo)) (toZ w32 (ofZ w32 hi)) t u r → Through n lo hi t u r
 through-held {n} {lo} {hi} {t} f g h = record {
   elements = h .elements ∙ read-back f g (λ x y. run (clipped x y) (before n ++ last n) t);
-  mark = h .mark ∙ read-back f g (λ x y. hits x y (last n) (run (clipped x y) (before n) t));
+  mark = h .mark ∙ read-back f g (λ x y. hits x y (before n ++ last n) t);
 }
 
 -- the whole of a DCT pass
@@ -110,7 +109,7 @@ dct-is {lo} {hi} {t} {u} {r} c s n g e q h =
     let whole : Through (bits k - 1) (low m) (high m) (gathered c s (len k)) u r =
     record {
       elements = h .elements ∙ (λ i. run (clipped (g .low-is i) (g .high-is i)) (before (bits k - 1) ++ last (bits k - 1)) (from i));
-      mark = h .mark ∙ (λ i. hits (g .low-is i) (g .high-is i) (last (bits k - 1)) (run (clipped (g .low-is i) (g .high-is i)) (before (bits k - 1)) (from i)));
+      mark = h .mark ∙ (λ i. hits (g .low-is i) (g .high-is i) (before (bits k - 1) ++ last (bits k - 1)) (from i));
     } in
     record {
       elements = subst (λ (j : ℕ). put c s u j ≡ put c s (pass Dct k m (taken c s j) .values) j) e (dct-values k m c s whole);

@@ -1,4 +1,4 @@
--- One-dimensional passes: document 01, "One-dimensional passes".
+-- One-dimensional passes: document 01, "One-dimensional passes", with the mark of request E4; and section 7.13.2 of the AV1 specification by kind.
 use mathlib.Core.Bool.{Bool, false}
 use mathlib.Core.List.{List, [], _∷_, map}
 use Prim.Native.Nat.{ℕ}
@@ -6,8 +6,9 @@ use lib.IntN.{ℤ, pos, _+ℤ_, _-ℤ_, _*ℤ_}
 use Rattle.whole.specs.Numbers.{_>>_, round2, low, high}
 use Rattle.whole.specs.Lists.{at}
 use Rattle.av1.specs.Sides.{Side, of4, of8, of16, of32, bits}
-use Rattle.av1.specs.Network.{dct}
-use Rattle.av1.specs.Values.{Marked, unmarked, marked, values, marks, stored-only, all-along}
+use Rattle.av1.specs.Network.{permuted, steps, run}
+use Rattle.av1.specs.Values.{clipped, hits}
+use Rattle.av1.specs.Passes.{av1-dct, av1-identity, av1-wht}
 use Rattle.itx_1d.specs.declared.Kind.{Kind}
 use Rattle.itx_1d.specs.declared.Kind.the-variants.{Dct, Identity, Wht}
 
@@ -16,9 +17,13 @@ pub record Passed : Type 0 where
   pub values : List ℤ
   pub mark : Bool
 
--- the DCT's steps on xs, with the crate's clips to -m .. m - 1; `keeps` says what a mark keeps
-abbrev pub stepped : (Bool → Bool → Bool) → Side → ℕ → List ℤ → List Marked
-stepped keeps n m xs = dct (marked keeps (low m) (high m)) (bits n) (map unmarked xs)
+-- the DCT's steps on xs, with the crate's clips to -m .. m - 1: "the mark is yes when any clip within a DCT pass changes a value" (E4)
+abbrev pub dct : Side → ℕ → List ℤ → Passed
+dct n m xs =
+    let lo = low m in
+    let hi = high m in
+    let t = permuted (clipped lo hi) (bits n) xs in
+    record { values = run (clipped lo hi) (steps (bits n)) t; mark = hits lo hi (steps (bits n)) t }
 
 -- "identity4: v + (1697v + 2048 >> 12). identity8: 2v. identity16: 2v + (1697v + 1024 >> 11). identity32: 4v."
 unfoldable pub identity : Side → ℤ → ℤ
@@ -37,15 +42,14 @@ wht a b c d =
     let t1 = t4 -ℤ b in
     (t0 -ℤ t3) ∷ t3 ∷ t1 ∷ (t2 +ℤ t1) ∷ []
 
--- A pass by kind and length, with the range -m .. m - 1. The mark of a DCT: "some value that a DCT pass leaves in the block was changed by the
--- clip that stored it"; "WHT and identity never raise it".
+-- a pass by kind and length, with the range -m .. m - 1: "WHT and identity never raise" the mark
 unfoldable pub pass : Kind → Side → ℕ → List ℤ → Passed
-pass Dct n m xs = let out = stepped stored-only n m xs in record { values = values out; mark = marks out }
+pass Dct n m xs = dct n m xs
 pass Identity n m xs = record { values = map (identity n) xs; mark = false }
 pass Wht n m xs = record { values = wht (at xs 0) (at xs 1) (at xs 2) (at xs 3); mark = false }
 
--- whether a clip inside a pass changes a value, at any step
-unfoldable pub clip-acts : Kind → Side → ℕ → List ℤ → Bool
-clip-acts Dct n m xs = marks (stepped all-along n m xs)
-clip-acts Identity n m xs = false
-clip-acts Wht n m xs = false
+-- section 7.13.2: no range, no clip
+abbrev pub av1-pass : Kind → Side → List ℤ → List ℤ
+av1-pass Dct n xs = av1-dct n xs
+av1-pass Identity n xs = map (av1-identity n) xs
+av1-pass Wht n xs = av1-wht xs

@@ -12,12 +12,12 @@ use mir.Syntax.{w32}
 use mir.Val.{SFits, toZ, ofZ}
 use mir.ValLaws.{toZ-ofZ}
 use Rattle.av1.specs.Network.{Step, run, step}
-use Rattle.av1.specs.Values.{clipped}
+use Rattle.av1.specs.Values.{clipped, hits}
 use Rattle.whole.specs.Lists.{at, tab}
 use Rattle.whole.proofs.Held.{to2}
 use Rattle.av1.specs.Sides.{Side, of4, of8, of16, of32, len}
-use Rattle.av1.proofs.Related.{Both, none, one, both-tab, run-related}
-use Rattle.dct.specs.Halves.{hits}
+use Rattle.whole.specs.Both.{Both, none, one}
+use Rattle.av1.proofs.Related.{both-tab, run-related}
 use Rattle.dct.specs.Fitting.{Ends, Small, sizes}
 use Rattle.dct.proofs.Fits.{keep-small}
 use Rattle.dct.proofs.Walk.{run-append, hits-append}

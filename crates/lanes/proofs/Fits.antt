@@ -16,6 +16,7 @@ use Rattle.whole.proofs.Machine.{var, lit, _⊕_, _⊝_, _⊛_, _≫_, bound}
 use Rattle.intops.specs.Asked.{reduced, Slight}
 use Rattle.av1.specs.Network.{Step, B, H, step}
 use Rattle.av1.specs.Values.{exact}
+use Rattle.whole.specs.Both.{Both}
 use Rattle.av1.proofs.Related as Related
 use Rattle.dct.specs.Fitting.{Small}
 use Rattle.lanes.specs.Lanes.{lane, growth, slight, two-rows, fits, fitting, Able, Paired, Turnable}
@@ -45,10 +46,10 @@ module _ {s : Step} {ss : List Step} {L : List ℤ} (w : Able (s ∷ ss) L) wher
 
 module _ (t : List ℤ) (l : ℕ) (long : length t ≡ 1024) (l-in : l < 32) where
   -- an element of the lane is as small as its bound allows
-  small-at : (β : List ℕ) (most a : ℕ) → a < 32 → Related.Both Small (lane t l) β → T (leb (getD β a 0) most) → natAbs (at t (a * 32 + l)) ≤ most
+  small-at : (β : List ℕ) (most a : ℕ) → a < 32 → Both Small (lane t l) β → T (leb (getD β a 0) most) → natAbs (at t (a * 32 + l)) ≤ most
   small-at β most a h i k = subst (λ (z : ℤ). natAbs z ≤ most) (lane-at t l a h) (le-trans (Related.at Small (pos 0) 0 (omega arith) i a) (leb→le (getD β a 0) most k))
 
-  pub paired : (a b most : ℕ) (β : List ℕ) → Related.Both Small (lane t l) β → T (two-rows a b β most) → Paired t l a b most
+  pub paired : (a b most : ℕ) (β : List ℕ) → Both Small (lane t l) β → T (two-rows a b β most) → Paired t l a b most
   paired a b most β i k =
       let p = and-yes (ltb a 32 && ltb b 32) _ k in
       let rows = and-yes (ltb a 32) (ltb b 32) (p .0) in

@@ -17,9 +17,9 @@ use Rattle.whole.specs.Lists.{at, any}
 use Rattle.whole.proofs.Clips.{or-false, clip-inside}
 use Rattle.whole.proofs.Counts.{any-snoc, none-of-any, last-or-less}
 use Rattle.av1.specs.Network.{Step, B, H, step, run}
-use Rattle.av1.specs.Values.{exact, clipped}
-use Rattle.av1.proofs.Related.{Both, run-related}
-use Rattle.dct.specs.Halves.{hit, hits}
+use Rattle.av1.specs.Values.{exact, clipped, hit, hits}
+use Rattle.whole.specs.Both.{Both}
+use Rattle.av1.proofs.Related.{run-related}
 use Rattle.dct.specs.Fitting.{Small, sizes}
 use Rattle.dct.specs.Stages.{turns, joins, small}
 use Rattle.dct.proofs.Fits as Bounds

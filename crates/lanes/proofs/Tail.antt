@@ -11,8 +11,7 @@ use mir.Facts.{and-yes}
 use Rattle.whole.specs.Numbers.{outside}
 use Rattle.whole.specs.Lists.{at}
 use Rattle.av1.specs.Network.{Alg, Step, B, H, two, step, run}
-use Rattle.av1.specs.Values.{clipped}
-use Rattle.dct.specs.Halves.{hit, hits}
+use Rattle.av1.specs.Values.{clipped, hit, hits}
 
 abbrev both : ℕ → ℕ → ℕ → Bool
 both n a b = ltb a n && ltb b n

@@ -10,9 +10,8 @@ use lib.ListN.{getD, length}
 use Rattle.whole.specs.Lists.{at, tab}
 use Rattle.intops.specs.Asked.{reduced, Slight}
 use Rattle.av1.specs.Network.{Alg, Step, B, H, step}
-use Rattle.av1.specs.Values.{exact}
-use Rattle.av1.proofs.Related.{Both}
-use Rattle.dct.specs.Halves.{hit}
+use Rattle.av1.specs.Values.{exact, hit}
+use Rattle.whole.specs.Both.{Both}
 use Rattle.dct.specs.Fitting.{Small}
 
 unfoldable pub lane : List ℤ → ℕ → List ℤ

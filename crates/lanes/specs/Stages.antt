@@ -7,8 +7,8 @@ use lib.IntN.{ℤ, natAbs}
 use lib.ListN.{length, take, drop}
 use Rattle.whole.specs.Lists.{at}
 use Rattle.av1.specs.Network.{Step, H, run, step}
-use Rattle.av1.specs.Values.{exact, clipped}
-use Rattle.dct.specs.Halves.{before, last, hit, hits}
+use Rattle.av1.specs.Values.{exact, clipped, hit, hits}
+use Rattle.dct.specs.Halves.{before, last}
 use Rattle.dct.specs.Fitting.{Ends}
 use Rattle.dct.specs.Stages.{turns, joins}
 use Rattle.lanes.specs.Lanes.{lane, OnLane, far, Able}

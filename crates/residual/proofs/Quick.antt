@@ -8,14 +8,12 @@ use lib.Dec.{T}
 use lib.IntN.{ℤ, pos, natAbs}
 use lib.ListN.{length, replicate, List·getD-append}
 use Rattle.whole.specs.Lists.{at, tab}
-use Rattle.whole.proofs.Clips.{or-false}
 use Rattle.whole.proofs.Counts.{tab-at, tab-ext, tab-length}
 use Rattle.av1.specs.Sides.{Side, of4, of8, of16, of32, len, bits, side}
 use Rattle.av1.specs.Network.{Step, run}
-use Rattle.av1.specs.Values.{clipped}
-use Rattle.dct.specs.Halves.{before, last, hits}
+use Rattle.av1.specs.Values.{clipped, hits}
+use Rattle.dct.specs.Halves.{before, last}
 use Rattle.dct.specs.Stages.{Through}
-use Rattle.dct.proofs.Walk.{hits-append}
 use Rattle.lanes.specs.Lanes.{lane}
 use Rattle.lanes.specs.Stages.{Left, Ready}
 use Rattle.lanes.proofs.Lanes.{lane-at}
@@ -80,10 +78,7 @@ module _ {n w : ℕ} {f : ℕ → ℕ → ℤ} {u : List ℤ} (e : len (side n) 
     through : Through (bits (side n) - 1) lo hi (gathered xs 1 n) (run (clipped lo hi) (halves n) (gathered xs 1 n)) false
     through =
         let quiet = sym (hits-front lo hi (halves n) n front (replicate (32 - n) (pos 0)) front-length ours ∙ sym (hits-front lo hi (halves n) n front rest front-length ours) ∙ ap (hits lo hi (halves n)) (sym lane-is) ∙ left .quiet l l-in) in
-        record { elements = refl; mark = quiet-last (sym quiet) }
-      where
-        quiet-last : hits lo hi (halves n) (gathered xs 1 n) ≡ false → false ≡ hits lo hi (last (bits (side n) - 1)) (run (clipped lo hi) (before (bits (side n) - 1)) (gathered xs 1 n))
-        quiet-last q = sym (or-false (hits lo hi (before (bits (side n) - 1)) (gathered xs 1 n)) _ (sym (hits-append lo hi (before (bits (side n) - 1)) (last (bits (side n) - 1)) (gathered xs 1 n)) ∙ q) .1)
+        record { elements = refl; mark = quiet }
 
     passed : PassIs Dct n 1 (natAbs lo) xs (put xs 1 (run (clipped lo hi) (halves n) (gathered xs 1 n)) n) false
     passed = dct-is xs 1 n g e refl through

@@ -1,5 +1,6 @@
 -- `dct::dct4` meets its contract: each call is one stage more of the walk through its steps.
-use mathlib.Core.Path.{refl, _∙_}
+use mathlib.Core.Path.{refl}
+use mathlib.Core.Bool.{Bool, false}
 use mathlib.Core.List.{List, _++_}
 use Prim.Native.Nat.{ℕ, _-_}
 use lib.IntN.{ℤ}
@@ -7,37 +8,35 @@ use lib.ListN.{take, drop}
 use borrow.Author.Needs.{needs}
 use Rattle.av1.specs.Network.{Step}
 use Rattle.dct.specs.Halves.{before, last}
-use Rattle.dct.proofs.Walk.{Walked, begin, turned, joined, ask-turns, ask-joins, mark-is}
+use Rattle.dct.proofs.Walk.{Walked, begin, turned, joined, ask-turns, ask-joins}
 use Rattle.dct.proofs.dct4.Statement.{statement}
 use Rattle.dct.proofs.dct4.Tie as tie
 
 abbrev steps : ℕ → ℕ → List Step
 steps i j = take (j - i) (drop i (before 1 ++ last 1))
 
-abbrev Walk : tie.Start → ℕ → List ℤ → Type 0
-Walk s k u = Walked (s .args .min) (s .args .max) (s .args .t .now) (steps 0 k) u
+abbrev Walk : tie.Start → ℕ → List ℤ → Bool → Type 0
+Walk s k u r = Walked (s .args .min) (s .args .max) (s .args .t .now) (steps 0 k) u r
 
-w0 : (s : tie.Start) → Walk s 0 (s .args .t .now)
+w0 : (s : tie.Start) → Walk s 0 (s .args .t .now) false
 w0 s = begin (s .fits .min) (s .fits .max) (s .pre)
 
 abbrev s1 : tie.After-turns → tie.Start
 s1 c = c .before .before .before .before
 
-w1 : (c : tie.After-turns) → Walk (s1 c) 1 (c .turns .last .0)
+w1 : (c : tie.After-turns) → Walk (s1 c) 1 (c .turns .last .0) false
 w1 c = turned (w0 (c .before .before .before .before)) (steps 0 1) tt (c .turns .ensures)
 
 abbrev s2 : tie.After-turns2 → tie.Start
 s2 c = s1 (c .before .before .before .before)
 
-w2 : (c : tie.After-turns2) → Walk (s2 c) 2 (c .turns2 .last .0)
+w2 : (c : tie.After-turns2) → Walk (s2 c) 2 (c .turns2 .last .0) false
 w2 c = turned (w1 (c .before .before .before .before)) (steps 1 2) tt (c .turns2 .ensures)
 
 returns : tie.Need-returns
 returns c =
-    let j = c .before in
-    let w = w2 (j .before .before .before) in
-    let e = j .joins .ensures in
-    record { elements = joined w (last 1) e .is; mark = c .mark-of .ensures ∙ mark-is w (last 1) e }
+    let w = joined (w2 (c .before .before .before)) (last 1) (c .joins .ensures) in
+    record { elements = w .is; mark = w .mark }
 
 pub dct4-spec : {M : Type 1} → statement M
 dct4-spec =
@@ -51,5 +50,4 @@ dct4-spec =
     (λ c κs. ask-turns (w1 (c .before .before .before)) refl tt)
     (λ c. search needs)
     (λ c κs. ask-joins (w2 (c .before .before)) tt)
-    (λ c κs. search needs)
     returns)

@@ -1,5 +1,6 @@
 -- `dct::dct8` meets its contract: each call is one stage more of the walk through its steps.
-use mathlib.Core.Path.{refl, _∙_}
+use mathlib.Core.Path.{refl}
+use mathlib.Core.Bool.{Bool, _||_}
 use mathlib.Core.List.{List, _++_}
 use Prim.Native.Nat.{ℕ, _-_}
 use lib.IntN.{ℤ}
@@ -7,46 +8,50 @@ use lib.ListN.{take, drop}
 use borrow.Author.Needs.{needs}
 use Rattle.av1.specs.Network.{Step}
 use Rattle.dct.specs.Halves.{before, last}
-use Rattle.dct.proofs.Walk.{Walked, halved, turned, joined, ask-turns, ask-joins, mark-is}
+use Rattle.dct.proofs.Walk.{Walked, halved, turned, joined, ask-turns, ask-joins}
 use Rattle.dct.proofs.dct8.Statement.{statement}
 use Rattle.dct.proofs.dct8.Tie as tie
 
 abbrev steps : ℕ → ℕ → List Step
 steps i j = take (j - i) (drop i (before 2 ++ last 2))
 
-abbrev Walk : tie.Start → ℕ → List ℤ → Type 0
-Walk s k u = Walked (s .args .min) (s .args .max) (s .args .t .now) (steps 0 k) u
+abbrev Walk : tie.Start → ℕ → List ℤ → Bool → Type 0
+Walk s k u r = Walked (s .args .min) (s .args .max) (s .args .t .now) (steps 0 k) u r
 
 abbrev s0 : tie.After-dct4 → tie.Start
 s0 c = c .before .before
 
-w0 : (c : tie.After-dct4) → Walk (s0 c) 4 (c .dct4 .last .0)
+abbrev m0 : tie.After-dct4 → Bool
+m0 c = c .dct4 .result
+
+w0 : (c : tie.After-dct4) → Walk (s0 c) 4 (c .dct4 .last .0) (m0 c)
 w0 c = halved 1 (s0 c .fits .min) (s0 c .fits .max) (s0 c .pre) (c .dct4 .ensures)
 
 abbrev s1 : tie.After-turns → tie.Start
 s1 c = s0 (c .before .before .before .before)
 
-w1 : (c : tie.After-turns) → Walk (s1 c) 6 (c .turns .last .0)
+w1 : (c : tie.After-turns) → Walk (s1 c) 6 (c .turns .last .0) (m0 (c .before .before .before .before))
 w1 c = turned (w0 (c .before .before .before .before)) (steps 4 6) tt (c .turns .ensures)
 
 abbrev s2 : tie.After-joins → tie.Start
 s2 c = s1 (c .before .before .before)
 
-w2 : (c : tie.After-joins) → Walk (s2 c) 8 (c .joins .last .0)
+abbrev m2 : tie.After-joins → Bool
+m2 c = m0 (c .before .before .before .before .before .before .before) || c .joins .result
+
+w2 : (c : tie.After-joins) → Walk (s2 c) 8 (c .joins .last .0) (m2 c)
 w2 c = joined (w1 (c .before .before .before)) (steps 6 8) (c .joins .ensures)
 
 abbrev s3 : tie.After-turns2 → tie.Start
 s3 c = s2 (c .before .before .before .before)
 
-w3 : (c : tie.After-turns2) → Walk (s3 c) 9 (c .turns2 .last .0)
+w3 : (c : tie.After-turns2) → Walk (s3 c) 9 (c .turns2 .last .0) (m2 (c .before .before .before .before))
 w3 c = turned (w2 (c .before .before .before .before)) (steps 8 9) tt (c .turns2 .ensures)
 
 returns : tie.Need-returns
 returns c =
-    let j = c .before in
-    let w = w3 (j .before .before .before) in
-    let e = j .joins2 .ensures in
-    record { elements = joined w (last 2) e .is; mark = c .mark-of .ensures ∙ mark-is w (last 2) e }
+    let w = joined (w3 (c .before .before .before)) (last 2) (c .joins2 .ensures) in
+    record { elements = w .is; mark = w .mark }
 
 pub dct8-spec : {M : Type 1} → statement M
 dct8-spec =
@@ -63,5 +68,4 @@ dct8-spec =
     (λ c κs. ask-turns (w2 (c .before .before .before)) refl tt)
     (λ c. search needs)
     (λ c κs. ask-joins (w3 (c .before .before)) tt)
-    (λ c κs. search needs)
     returns)

@@ -4,7 +4,7 @@ use mathlib.Core.List.{List}
 use lib.IntN.{ℤ, natAbs}
 use borrow.Author.Needs.{needs}
 use Rattle.whole.proofs.Held.{to2}
-use Rattle.av1.proofs.Related.{Both}
+use Rattle.whole.specs.Both.{Both}
 use Rattle.dct.specs.Fitting.{Small, Ends}
 use Rattle.dct.specs.Stages.{small}
 use Rattle.itx_1d.specs.Inner.{PassIs}

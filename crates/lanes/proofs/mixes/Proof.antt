@@ -12,8 +12,7 @@ use mir.Syntax.{w32}
 use mir.Val.{toZ, ofZ}
 use mir.ValLaws.{toZ-ofZ}
 use Rattle.av1.specs.Network.{Step, H, step, run}
-use Rattle.av1.specs.Values.{exact}
-use Rattle.dct.specs.Halves.{hit}
+use Rattle.av1.specs.Values.{exact, hit}
 use Rattle.dct.specs.Stages.{joins}
 use Rattle.dct.proofs.Order.{or-no}
 use Rattle.dct.proofs.Tables.{joins-at, joins-end}
