@@ -124,7 +124,7 @@ fn dct(c: &mut [i32], n: usize, stride: usize, min: i32, max: i32) -> bool
 }
 
 // One element of the identity of n points.
-fn identity_of(n: usize, v: i32) -> i32
+pub fn identity_of(n: usize, v: i32) -> i32
     requires { ⌜ natAbs v ≤ 524288 ⌝ }
     ensures { λ r. ⌜ r ≡ Passes.identity (side n) v ⌝ }
 {

@@ -9,3 +9,4 @@ pub mod Whole
 pub mod Ends
 pub mod Laying
 pub mod Quick
+pub mod Scaling

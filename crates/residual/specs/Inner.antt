@@ -78,6 +78,11 @@ pub record RowsAre (p : Plan) (m : ℕ) (c : List ℤ) (k : ℕ) (t : List ℤ) 
   pub elements : Holds (p .w) k (λ y x. at (row-made p m c y .values) x) t
   pub marked : mark ≡ any k (λ y. row-made p m c y .mark)
 
+-- the first k numbers, which an identity takes
+pub record Scales (k : ℕ) (t : List ℤ) : Type 0 where
+  pub inside : k ≤ length t
+  pub small : (i : ℕ) → natAbs (at t i) ≤ 524288
+
 -- a block of lanes for a DCT of n points: element i < k of each of w lines stands at its place in bit-reversed order
 pub record Laid (n w k : ℕ) (f : ℕ → ℕ → ℤ) (u : List ℤ) : Type 0 where
   pub rows : (i l : ℕ) → i < k → l < w → at u (source n i * 32 + l) ≡ f i l

@@ -6,6 +6,8 @@ ghost use lib.IntN.{ℤ, natAbs};
 ghost use lib.ListN.{length};
 ghost use Rattle.whole.specs.Numbers.{round2, clip};
 ghost use Rattle.whole.specs.Lists.{at, any};
+ghost use Rattle.av1.specs.Sides.{side};
+ghost use Rattle.itx_1d.specs.Passes.{identity};
 ghost use Rattle.residual.specs.Blocks as Blocks;
 ghost use Rattle.residual.specs.Inner as Inner;
 use bitdepth::Depth;
@@ -13,6 +15,7 @@ use bitdepth::Range;
 use intops::iclip;
 use itx_1d::Kind;
 use itx_1d::REV;
+use itx_1d::identity_of;
 use itx_1d::inv_1d;
 use lanes::dct;
 use levels::Plan;
@@ -214,6 +217,30 @@ fn quick_rows(
     true
 }
 
+// An identity of n points on the first k numbers: no number asks for another.
+fn scale(t: &mut [i32], n: usize, k: usize)
+    requires { ⌜ Inner.Scales k (now t) ⌝ }
+    ensures { λ _. ⌜ now (t .exit) ≡ Inner.fill (now (t .entry)) 0 (λ i. identity (side n) (at (now (t .entry)) i)) k ⌝ }
+{
+    for i in 0..k {
+        let v = t[i];
+        let e = identity_of(n, v);
+        t[i] = e;
+    }
+}
+
+// Steps 1 to 3 on rows 0..r-1, for an identity: no clip acts.
+fn rows_of_identity(t: &mut [i32], plan: Plan, coeff: &[i32], r: usize)
+    requires { ⌜ Inner.Resolves plan (now coeff) r (now t) × (plan .rows ≡ Kind.Identity) ⌝ }
+    ensures { λ _. ⌜ ((m : ℕ) → Inner.RowsAre plan m (now (coeff .entry)) r (now (t .exit)) Bool.false) ⌝ }
+{
+    let w = plan.w;
+    for y in 0..r {
+        load_row(&mut *t, plan, coeff, y);
+    }
+    scale(t, w, r * w);
+}
+
 // Steps 1 to 3 on rows 0..r-1.
 fn rows(
     t: &mut [i32],
@@ -229,6 +256,10 @@ fn rows(
     ensures { λ m. ⌜ Inner.RowsAre plan (natAbs min) (now (coeff .entry)) r (now (t .exit)) m × (length (now (u .exit)) ≡ 1024) ⌝ }
 {
     let kind = plan.rows;
+    if let Kind::Identity = kind {
+        rows_of_identity(t, plan, coeff, r);
+        return false;
+    }
     let Kind::Dct = kind else {
         return rows_by_line(t, plan, coeff, r, min, max);
     };
@@ -308,6 +339,10 @@ fn columns(
     let kind = plan.columns;
     let w = plan.w;
     let h = plan.h;
+    if let Kind::Identity = kind {
+        scale(t, h, h * w);
+        return false;
+    }
     let Kind::Dct = kind else {
         return columns_by_line(t, plan, min, max);
     };
