@@ -9,7 +9,8 @@
 extern "C" {
 #endif
 
-/* A call answers one word: the number of the refusal in bits 0 to 7, or 0; the mark in bit 8; the place from bit 16 up. */
+/* A call answers one word: the number of the refusal in bits 0 to 7, or 0; the mark in bit 8, which is 1 when any clip within a
+   DCT pass changed a value; the place from bit 16 up. */
 static inline unsigned sgrifomel_number(uint64_t answer) {
     return (unsigned)(answer & 0xff);
 }
