@@ -94,6 +94,10 @@ pub or-no : (a : Bool) → a || false ≡ a
 or-no true = refl
 or-no false = refl
 
+pub or-yes : (a : Bool) → a || true ≡ true
+or-yes true = refl
+or-yes false = refl
+
 module _ (lo hi : ℤ) where
   abbrev clips : ℤ → ℤ → Bool
   clips x y = outside (x +ℤ y) lo hi || outside (x -ℤ y) lo hi

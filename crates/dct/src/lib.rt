@@ -36,11 +36,17 @@ fn join(t: &mut [i32; 32], a: usize, b: usize, min: i32, max: i32) -> bool
     let y = t[b];
     let u = x + y;
     let v = x - y;
-    let p = iclip(u, min, max);
-    let q = iclip(v, min, max);
-    t[a] = p;
-    t[b] = q;
-    outside(u, min, max) | outside(v, min, max)
+    let hit = outside(u, min, max) | outside(v, min, max);
+    if hit {
+        let p = iclip(u, min, max);
+        let q = iclip(v, min, max);
+        t[a] = p;
+        t[b] = q;
+    } else {
+        t[a] = u;
+        t[b] = v;
+    }
+    hit
 }
 
 // A stage of turns: `pairs` has a, b for each, `angles` cosine, sine.
@@ -70,7 +76,9 @@ fn joins(t: &mut [i32; 32], pairs: &[usize], min: i32, max: i32) -> bool
         let a = pairs[i];
         let b = pairs[i + 1];
         let hit = join(&mut *t, a, b, min, max);
-        mark = mark | hit;
+        if hit {
+            mark = true;
+        }
         i += 2;
     }
     mark
