@@ -26,6 +26,7 @@ use itx_1d::Kind;
 use levels::Decision;
 use levels::Plan;
 use pixels::add_block;
+use pixels::shift_block;
 use residual::resolve;
 use residual::shortcut;
 use strided::ByteStride;
@@ -301,7 +302,7 @@ fn check_live(
     check_stray(ranged, coeff, r)
 }
 
-// The shortcut: every pixel gets the same number, so one row of it serves, taken as it is.
+// The shortcut: every pixel gets the same number.
 fn by_shortcut(
     dst: &mut [u16],
     offset: u32,
@@ -318,8 +319,7 @@ fn by_shortcut(
     let top = depth.maximum();
     let first = coeff[0];
     let v = shortcut(plan, first);
-    let t = [v; 32];
-    add_block(&mut *dst, offset, stride, &t, 0, Kind::Wht, w, h, top);
+    shift_block(&mut *dst, offset, stride, v, w, h, top);
     coeff[0] = 0;
 }
 

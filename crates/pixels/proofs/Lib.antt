@@ -1,2 +1,3 @@
 -- Laws of the pixels.
 pub mod Pixels
+pub mod Shifts

@@ -29,3 +29,9 @@ pub record Adding (offset : ℕ) (stride : ℤ) (step w h : ℕ) (ps : List ℕ)
   pub step-small : step ≤ 32
   pub inside : rows-outside (length ps) offset stride w h ≡ false
   pub numbers : (y : ℕ) → y < h → Small (y * step) w t
+
+-- a block to every pixel of which v is added
+pub record Shifting (offset : ℕ) (stride v : ℤ) (w h : ℕ) (ps : List ℕ) : Type 0 where
+  pub height : h ≤ 32
+  pub inside : rows-outside (length ps) offset stride w h ≡ false
+  pub small : natAbs v ≤ 16777216

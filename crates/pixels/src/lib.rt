@@ -1,7 +1,9 @@
 // Step 6 of the two-dimensional transform: what is added to the pixels of a plane.
 ghost use mathlib.Core.Path.{_≡_};
-ghost use Prim.Native.Nat.{_+_, _*_, _≤_};
-ghost use lib.IntN.{ℤ, natAbs};
+ghost use Prim.Native.Nat.{_+_, _-_, _*_, _≤_, min};
+ghost use lib.IntN.{ℤ, pos, natAbs};
+ghost use lib.ListN.{length};
+ghost use Rattle.whole.specs.Numbers.{clip};
 ghost use Rattle.whole.specs.Lists.{at};
 ghost use Rattle.strided.specs.Planes.{in-pixels, lent};
 ghost use Rattle.pixels.specs.Adds.{add-pixel, add-row, add-rows};
@@ -11,12 +13,46 @@ use itx_1d::Kind;
 use residual::leave;
 use strided::PixelStride;
 
+// v clipped to 0..top.
+fn pixel(v: i32, top: u16) -> u16
+    ensures { λ r. ⌜ r ≡ natAbs (clip v (pos 0) (pos top)) ⌝ }
+{
+    iclip(v, 0, top as i32) as u16
+}
+
 // A pixel with v added, clipped to 0..top.
 fn add_pixel(p: u16, v: i32, top: u16) -> u16
     requires { ⌜ natAbs v ≤ 16777216 ⌝ }
     ensures { λ r. ⌜ r ≡ add-pixel top p v ⌝ }
 {
-    iclip(p as i32 + v, 0, top as i32) as u16
+    pixel(p as i32 + v, top)
+}
+
+// p less d, and 0 where d is more.
+fn less(p: u16, d: u16) -> u16
+    ensures { λ r. ⌜ r ≡ p - d ⌝ }
+{
+    if d < p { p - d } else { 0 }
+}
+
+// p and d more, and 65535 where that is less.
+fn more(p: u16, d: u16) -> u16
+    ensures { λ r. ⌜ r ≡ min (p + d) 65535 ⌝ }
+{
+    if 65535 - d < p { 65535 } else { p + d }
+}
+
+// The same as `add_pixel`, where many pixels get one number: all in 16 bits, and 65535 stands for the top.
+fn shift_pixel(p: u16, v: i32, top: u16) -> u16
+    requires { ⌜ natAbs v ≤ 16777216 ⌝ }
+    ensures { λ r. ⌜ r ≡ add-pixel top p v ⌝ }
+{
+    let down = pixel(0 - v, 65535);
+    let up = pixel(v, top);
+    let rest = 65535 - top;
+    let q = less(p, down);
+    let q = more(q, up + rest);
+    less(q, rest)
 }
 
 // The w numbers of t from `start` on, rounded, added to the w pixels from `from` on.
@@ -31,7 +67,49 @@ fn add_row(ps: &mut [u16], from: usize, t: &[i32], start: usize, columns: Kind, 
     }
 }
 
-// Row y's numbers stand in t from y·step on: step is w for w-wide rows, and 0 where every row gets the same numbers.
+// v added to the w pixels from `from` on.
+fn shift_pixels(ps: &mut [u16], from: usize, v: i32, w: usize, top: u16)
+    requires { ⌜ (natAbs v ≤ 16777216) × (from + w ≤ length (now ps)) ⌝ }
+    ensures { λ _. ⌜ now (ps .exit) ≡ add-row top (now (ps .entry)) from (λ x. v) w ⌝ }
+{
+    for x in 0..w {
+        let p = ps[from + x];
+        ps[from + x] = shift_pixel(p, v, top);
+    }
+}
+
+// A row of 32 pixels apart, whose loop LLVM takes without a test.
+fn shift_row(ps: &mut [u16], from: usize, v: i32, w: usize, top: u16)
+    requires { ⌜ (natAbs v ≤ 16777216) × (from + w ≤ length (now ps)) ⌝ }
+    ensures { λ _. ⌜ now (ps .exit) ≡ add-row top (now (ps .entry)) from (λ x. v) w ⌝ }
+{
+    if w == 32 {
+        shift_pixels(ps, from, v, 32, top);
+    } else {
+        shift_pixels(ps, from, v, w, top);
+    }
+}
+
+// v added to every pixel of the block.
+pub fn shift_block(
+    ps: &mut [u16],
+    offset: u32,
+    stride: PixelStride,
+    v: i32,
+    w: usize,
+    h: usize,
+    top: u16,
+)
+    requires { ⌜ Inner.Shifting offset (stride .0) v w h (now ps) ⌝ }
+    ensures { λ _. ⌜ ((bytes : ℤ) → in-pixels bytes ≡ stride .0 → now (ps .exit) ≡ add-rows (lent (now (ps .entry)) offset bytes) top (λ y x. v) w h) ⌝ }
+{
+    for y in 0..h {
+        let start = stride.start(offset, y as u16);
+        shift_row(&mut *ps, start as usize, v, w, top);
+    }
+}
+
+// Row y's numbers stand in t from y·step on.
 pub fn add_block(
     ps: &mut [u16],
     offset: u32,

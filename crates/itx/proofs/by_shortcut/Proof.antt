@@ -5,18 +5,16 @@ use Prim.Native.Nat.{ℕ, _+_, _*_, _≤_, _<_}
 use native.Mathlib.Nat.{mul-le-mul}
 use native.Mathlib.Omega.{arith}
 use lib.IntN.{ℤ, pos, natAbs}
-use lib.ListN.{length, replicate, getD-replicate}
+use lib.ListN.{length}
 use mir.Syntax.{w32}
 use mir.Val.{toZ, ofZ}
 use mir.ValLaws.{toZ-ofZ}
 use borrow.Author.Needs.{needs}
 use Rattle.whole.specs.Lists.{at}
 use Rattle.bitdepth.specs.Depths.{maximum}
-use Rattle.levels.specs.declared.Plan.{Plan}
 use Rattle.levels.proofs.Sizes.{side-bounds}
-use Rattle.strided.specs.Planes.{Plane, lent}
-use Rattle.pixels.specs.Adds.{add-pixel, add-rows}
-use Rattle.pixels.proofs.Pixels.{rows-ext}
+use Rattle.strided.specs.Planes.{lent}
+use Rattle.pixels.specs.Adds.{add-rows}
 use Rattle.residual.specs.Blocks.{shortcut}
 use Rattle.itx.proofs.by_shortcut.Statement.{statement}
 use Rattle.itx.proofs.by_shortcut.Tie as tie
@@ -46,38 +44,23 @@ module _ (o : tie.After-shortcut) where
   small : natAbs number ≤ 16777216
   small = subst⁻¹ (λ (z : ℤ). natAbs z ≤ 16777216) held (o .shortcut .ensures .1)
 
--- which stands everywhere in one row
-same-at : (z : ℤ) (y x : ℕ) → x < 32 → at (replicate 32 z) (y * 0 + x) ≡ z
-same-at z y x l = let e : y * 0 + x ≡ x = omega arith in ap (at (replicate 32 z)) e ∙ getD-replicate 32 x z (pos 0) l
-
-add-block-requires : tie.Need-add-block-requires
-add-block-requires c κs =
-    let o = c .before .before in
+shift-block-requires : tie.Need-shift-block-requires
+shift-block-requires c κs =
+    let o = c .before in
     let s = begun o in
-    let wide = side-bounds (s .args .plan .w) (s .pre .sized .width) .1 in
-    record {
-      height = side-bounds (s .args .plan .h) (s .pre .sized .height) .1;
-      step-small = omega arith;
-      inside = s .pre .inside;
-      numbers = λ y l. record { there = λ x b. omega (arith, wide); small = λ x b. subst⁻¹ (λ (z : ℤ). natAbs z ≤ 16777216) (same-at (number o) y x (omega (arith, wide))) (small o) };
-    }
+    record { height = side-bounds (s .args .plan .h) (s .pre .sized .height) .1; inside = s .pre .inside; small = small o }
 
 returns : tie.Need-returns
 returns c =
     let b = c .before .before in
-    let o = b .before .before .before in
+    let o = b .before .before in
     let s = begun o in
     let p = s .args .plan in
-    let a : ℤ → Plane = λ bytes. lent (s .args .dst .now) (s .args .offset) bytes in
-    let top = maximum (s .args .depth) in
-    let v : ℕ → ℕ → ℤ = λ y x. at (replicate 32 (number o)) (y * 0 + x) in
-    let u : ℕ → ℕ → ℤ = λ y x. shortcut p (at (s .args .coeff .now) 0) in
     record {
       added = record {
         pixels-are = λ bytes e.
-            b .add-block .ensures bytes e
-            ∙ ap (λ (q : ℕ). add-rows (a bytes) q v (p .w) (p .h)) (o .before .before .maximum .ensures)
-            ∙ rows-ext (a bytes) top v u (p .w) (p .h) (λ y x l m. ap (add-pixel top _) (same-at (number o) y x (omega (arith, side-bounds (p .w) (s .pre .sized .width) .1, m)) ∙ number-is o));
+            b .shift-block .ensures bytes e
+            ∙ (λ k. add-rows (lent (s .args .dst .now) (s .args .offset) bytes) (o .before .before .maximum .ensures k) (λ y x. number-is o k) (p .w) (p .h));
       };
       coefs-are = refl;
     }
@@ -89,9 +72,8 @@ by-shortcut-spec =
     (λ c κs. search needs)
     (λ c. there (c .before .before))
     (λ c κs. let s = c .before .before .before in (s .pre .sized, subst⁻¹ (λ (z : ℤ). natAbs z ≤ 524288) (toZ-ofZ w32 (at (s .args .coeff .now) 0) (record { sfits = c .first .given })) (s .pre .coefs .small 0 (area s))))
-    (λ c. search needs)
-    add-block-requires
-    (λ c. there (begun (c .before .before .before .before .before)))
+    shift-block-requires
+    (λ c. there (begun (c .before .before .before .before)))
     (λ c. search needs)
     (λ c. search needs)
     returns)

@@ -1,27 +1,15 @@
 -- `pixels::add_pixel` meets its contract.
-use mathlib.Core.Path.{_≡_, ap, _∙_, subst⁻¹}
-use mathlib.Core.Bool.{false}
+use mathlib.Core.Path.{_≡_, ap, _∙_}
 use mathlib.Core.List.{List, [], _∷_}
-use Prim.Native.Nat.{ℕ, _≤_}
+use Prim.Native.Nat.{ℕ}
 use native.Mathlib.Omega.{arith}
 use borrow.Author.Needs.{needs}
-use lib.Dec.{T}
-use lib.IntN.{ℤ, pos, negsuc, _+ℤ_, natAbs}
-use lib.Signed.{nonNeg}
-use mir.Syntax.{w16, w32}
-use mir.Val.{Fits, toZ, ofZ}
-use mir.ValLaws.{toZ-ofZ, toZ-pos}
-use Rattle.whole.specs.Numbers.{clip, outside}
-use Rattle.whole.proofs.Clips.{clip-kept}
-use Rattle.whole.proofs.Ranges.{inside, not-outside}
+use lib.IntN.{ℤ, pos, natAbs}
+use mir.Syntax.{w32}
+use Rattle.whole.specs.Numbers.{clip}
 use Rattle.whole.proofs.Machine.{Within, var, _⊕_, need, reads}
 use Rattle.pixels.proofs.add_pixel.Statement.{statement}
 use Rattle.pixels.proofs.add_pixel.Tie as tie
-
--- what lies in 0 .. top is a pixel
-from-0 : (z : ℤ) (top : ℕ) → outside z (pos 0) (pos top) ≡ false → T (nonNeg z) × (natAbs z ≤ top)
-from-0 (pos n) top e = (tt, omega (arith, inside (pos 0) (pos top) (pos n) e .below))
-from-0 (negsuc n) top e = let f : ⊥ = omega (arith, inside (pos 0) (pos top) (negsuc n) e .above) in absurd f
 
 -- the pixel and what is added to it, with their bounds
 abbrev bounds : List ℕ
@@ -34,31 +22,11 @@ module _ (s : tie.Start) where
   bounded : Within numbers bounds
   bounded = (omega (arith, s .fits .p .fits), (s .pre, tt))
 
-  abbrev clipped : ℤ
-  clipped = clip (pos (s .args .p) +ℤ s .args .v) (pos 0) (pos (s .args .top))
-
-  in-range : T (nonNeg clipped) × (natAbs clipped ≤ s .args .top)
-  in-range = from-0 clipped (s .args .top) (clip-kept (pos (s .args .p) +ℤ s .args .v) (pos 0) (pos (s .args .top)) (pos 0) (not-outside (pos 0) (pos (s .args .top)) (pos 0) (record { above = omega arith; below = omega arith })))
-
-held : (c : tie.After-iclip) → toZ w32 (ofZ w32 (c .iclip .result)) ≡ clipped (c .before)
-held c =
-    let s = c .before in
-    let sum = reads (numbers s) bounds (bounded s) (var 0 ⊕ var 1) w32 tt in
-    let top = toZ-pos w32 (s .args .top) (omega (arith, s .fits .top .fits)) in
-    toZ-ofZ w32 (c .iclip .result) (record { sfits = c .iclip .ok }) ∙ c .iclip .ensures ∙ (λ i. clip (sum i) (pos 0) (top i))
-
-cast-result : tie.Need-cast-result
-cast-result c =
-    let q = in-range (c .before) in
-    subst⁻¹ (λ (z : ℤ). T (nonNeg z) × Fits w16 (natAbs z)) (held c) (q .0, record { fits = omega (arith, q .1, c .before .fits .top .fits) })
-
 pub add-pixel-spec : {M : Type 1} → statement M
 add-pixel-spec =
     tie.close
     (tie.spec
     (λ c. search needs)
     (λ c. need (numbers c) bounds (bounded c) (var 0 ⊕ var 1) w32 tt)
-    (λ c. search needs)
     (λ c κs. search needs)
-    cast-result
-    (λ c. ap natAbs (held c)))
+    (λ c. let s = c .before in c .pixel .ensures ∙ ap (λ (z : ℤ). natAbs (clip z (pos 0) (pos (s .args .top)))) (reads (numbers s) bounds (bounded s) (var 0 ⊕ var 1) w32 tt)))

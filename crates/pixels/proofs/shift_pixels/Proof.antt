@@ -1,0 +1,80 @@
+-- `pixels::shift_pixels` meets its contract.
+use mathlib.Core.Path.{_≡_, refl, sym, ap, _∙_, subst⁻¹}
+use mathlib.Core.List.{List}
+use Prim.Native.Nat.{ℕ, _+_, _-_, _≤_, _<_}
+use native.Mathlib.Numerals.{add-one}
+use native.Mathlib.Omega.{arith}
+use lib.IntN.{ℤ, natAbs}
+use lib.ListN.{length, set, getD}
+use mir.Syntax.{w32}
+use mir.Val.{toZ, ofZ}
+use mir.ValLaws.{toZ-ofZ}
+use Rattle.pixels.specs.Adds.{add-pixel, add-row}
+use Rattle.pixels.proofs.Pixels.{row-length, row-other}
+use Rattle.pixels.proofs.shift_pixels.Statement.{statement}
+use Rattle.pixels.proofs.shift_pixels.Tie as tie
+
+abbrev Inv-loop : tie.InvT-loop
+Inv-loop ps₀ from v w top x₀ ps x = (ps ≡ add-row top ps₀ from (λ i. toZ w32 v) x) × (x ≤ w)
+
+abbrev μ-loop : tie.MeasureT-loop
+μ-loop ps₀ from v w top x₀ ps x = w - x
+
+as-long : (c : tie.At-loop Inv-loop μ-loop) → length (c .loop .ps) ≡ length (c .before .before .args .ps .now)
+as-long c = ap length (c .loop .inv .0) ∙ row-length _ _ _ _ (c .loop .x)
+
+module _ (c : tie.In-loop Inv-loop μ-loop) where
+  abbrev s : tie.Start Inv-loop μ-loop
+  s = c .before .before .before
+
+  -- the pixel's place is in the slice, as it was and as it is
+  here : s .args .from + c .before .loop .x < length (s .args .ps .now)
+  here = omega (arith, c .loop-test .taken, s .pre .1)
+
+  here-still : s .args .from + c .before .loop .x < length (c .before .loop .ps)
+  here-still = omega (arith, here, as-long (c .before))
+
+loop-holds : tie.Need-loop-holds Inv-loop μ-loop
+unfolding add-row
+loop-holds c = (refl, omega arith)
+
+loop-again : tie.Need-loop-again Inv-loop μ-loop
+unfolding add-row
+loop-again c =
+    let i = c .before .before in
+    let a = s i .args in
+    let l = i .before .loop in
+    let place = a .from + l .x in
+    let v : ℕ → ℤ = λ x. toZ w32 (ofZ w32 (a .v)) in
+    -- the pixel is still what it was
+    let p = ap (λ (ps : List ℕ). getD ps place 0) (l .inv .0) ∙ row-other (a .top) (a .ps .now) (a .from) v (l .x) place (λ x m e. omega arith) in
+    let q = c .shift-pixel .ensures ∙ (λ k. add-pixel (a .top) (p k) (v 0)) in
+    ((λ k. set (l .inv .0 k) place (q k)) ∙ ap (add-row (a .top) (a .ps .now) (a .from) v) (sym (add-one (l .x))), omega (arith, i .loop-test .taken))
+
+returns : tie.Need-returns Inv-loop μ-loop
+returns c =
+    let b = c .before .before .before in
+    let l = c .before .loop in
+    let all : l .x ≡ b .args .w = omega (arith, l .inv .1, c .loop-test .left) in
+    let v = toZ-ofZ w32 (b .args .v) (b .fits .v) in
+    l .inv .0 ∙ (λ k. add-row (b .args .top) (b .args .ps .now) (b .args .from) (λ x. v k) (all k))
+
+pub shift-pixels-spec : {M : Type 1} → statement M
+shift-pixels-spec =
+    tie.close
+    (tie.spec
+    Inv-loop
+    μ-loop
+    loop-holds
+    (λ c. omega (arith, here c, s c .good .0 .0))
+    (λ c. omega (arith, here c, s c .good .0 .1))
+    (λ c. here-still (c .before))
+    (λ c κs. let b = s (c .before) in subst⁻¹ (λ (z : ℤ). natAbs z ≤ 16777216) (toZ-ofZ w32 (b .args .v) (b .fits .v)) (b .pre .0))
+    (λ c. let i = c .before .before in omega (arith, here i, s i .good .0 .0))
+    (λ c. let i = c .before .before in omega (arith, here i, s i .good .0 .1))
+    (λ c. here-still (c .before .before))
+    (λ c. let i = c .before .before in omega (arith, i .loop-test .taken, s i .fits .w))
+    (λ c. omega arith)
+    loop-again
+    (λ c. as-long (c .before))
+    returns)
