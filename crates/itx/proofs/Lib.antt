@@ -10,5 +10,6 @@ pub mod Influence
 pub mod Known
 pub mod Opening
 pub mod Chain
+pub mod Painting
 pub mod Accepted
 pub mod Unique

@@ -1,6 +1,6 @@
 // The two-dimensional transform of src/itx.rs with its checks: the plain call and the live-row call.
 ghost use mathlib.Core.Path.{_≡_};
-ghost use mathlib.Core.Bool.{not, _&&_};
+ghost use mathlib.Core.Bool.{false, not, _&&_};
 ghost use Prim.Native.Nat.{ℕ, _*_, _≤_};
 ghost use lib.Dec.{ltb, leb};
 ghost use lib.IntN.{ℤ};
@@ -11,6 +11,7 @@ ghost use lib.Signed.{nonNeg};
 ghost use Rattle.whole.specs.Checks.{accept, then, unless};
 ghost use Rattle.bitdepth.specs.Depths as Depths;
 ghost use Rattle.levels.specs.Plans as Plans;
+ghost use Rattle.residual.specs.Inner.{wht-plan};
 ghost use Rattle.itx.specs.Calls as Calls;
 ghost use Rattle.itx.specs.Answers as Answers;
 ghost use Rattle.itx.specs.Answers.{answer-of, verdict-of, placed-of, Turned, Within32, Enough, RowsIn, Handed, plane-check, range-check, stray-check, block, Ready, Passed, Shortened};
@@ -28,6 +29,7 @@ use levels::Plan;
 use pixels::add_block;
 use pixels::shift_block;
 use residual::resolve;
+use residual::resolve_wht;
 use residual::shortcut;
 use strided::ByteStride;
 use strided::PixelStride;
@@ -217,6 +219,25 @@ fn check_stray(before: Placed, coeff: &[i32], r: usize) -> Placed
     Placed::Halt(Refusal::Stray(i))
 }
 
+// The long way of WHT_WHT, whose sixteen numbers ask for no larger block.
+fn by_wht(
+    dst: &mut [u16],
+    offset: u32,
+    stride: PixelStride,
+    coeff: &mut [i32],
+    depth: Depth,
+    r: usize,
+)
+    requires { ⌜ Ready (wht-plan 0) offset (stride .0) (now dst) (now coeff) × (r ≤ 4) ⌝ }
+    ensures { λ _. ⌜ ((shift : ℕ) → Passed (wht-plan shift) depth offset (stride .0) r (now (dst .entry)) (now (coeff .entry)) false (now (dst .exit)) (now (coeff .exit))) ⌝ }
+{
+    let top = depth.maximum();
+    let mut t = [0i32; 16];
+    resolve_wht(&mut t, &*coeff, r);
+    add_block(&mut *dst, offset, stride, &t, 4, Kind::Wht, 4, 4, top);
+    clear(&mut *coeff, 16);
+}
+
 // The long way: steps 1 to 7 with r live rows.
 fn by_passes(
     dst: &mut [u16],
@@ -232,7 +253,12 @@ fn by_passes(
 {
     let w = plan.w;
     let h = plan.h;
+    let rows = plan.rows;
     let columns = plan.columns;
+    if let Kind::Wht = rows {
+        by_wht(dst, offset, stride, coeff, depth, r);
+        return false;
+    }
     let top = depth.maximum();
     let mut t = [0i32; 1024];
     let mark = resolve(&mut t, plan, depth, &*coeff, r);

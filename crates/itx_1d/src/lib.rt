@@ -148,7 +148,7 @@ fn identity(c: &mut [i32], n: usize, stride: usize)
 }
 
 // rav1d_inv_wht4_1d_c.
-fn wht4(c: &mut [i32], stride: usize)
+pub fn wht4(c: &mut [i32], stride: usize)
     requires { ⌜ Inner.Passable (now c) stride 4 16777216 ⌝ }
     ensures { λ _. ⌜ Inner.PassIs Kind.Wht 4 stride 0 (now (c .entry)) (now (c .exit)) Bool.false ⌝ }
 {

@@ -14,15 +14,15 @@ use Rattle.av1.specs.Sides.{len, side}
 use Rattle.itx_1d.specs.declared.Kind.{Kind}
 use Rattle.itx_1d.specs.Passes.{pass}
 use Rattle.itx_1d.specs.Inner.{PassIs, Passable}
-use Rattle.residual.specs.Inner.{fill, Holds, column-made, Columned}
+use Rattle.residual.specs.Inner.{fill, HoldsIn, column-made, Columned}
 use Rattle.residual.proofs.Fills.{fill-length, fill-before, fill-after, fill-own}
 use Rattle.residual.proofs.Lines.{part, back, line, passable, line-own, line-kept, line-length, line-mark}
 use Rattle.residual.proofs.Places.{by-row, same-column}
 
 -- ---- rows: t holds y rows, and u has row y loaded with e besides
 
-module _ (w y : ℕ) (g : ℕ → ℕ → ℤ) (e : ℕ → ℤ) (t u : List ℤ) (is-length : len (side w) ≡ w) (room : suc y * w ≤ 1024) (so-far : Holds w y g t) (loaded : u ≡ fill t (y * w) e w) where
-  u-long : length u ≡ 1024
+module _ {n : ℕ} (w y : ℕ) (g : ℕ → ℕ → ℤ) (e : ℕ → ℤ) (t u : List ℤ) (is-length : len (side w) ≡ w) (room : suc y * w ≤ n) (so-far : HoldsIn n w y g t) (loaded : u ≡ fill t (y * w) e w) where
+  u-long : length u ≡ n
   u-long = ap length loaded ∙ fill-length t (y * w) e w ∙ so-far .long
 
   reach : (j : ℕ) → j < w → y * w + j * 1 < length u
@@ -54,7 +54,7 @@ module _ (w y : ℕ) (g : ℕ → ℕ → ℤ) (e : ℕ → ℤ) (t u : List ℤ
     after-row : (i : ℕ) → suc y * w ≤ i → at (back u (y * w) d) i ≡ at t i
     after-row i l = outside-row i (λ j v z. omega arith) ∙ ap (λ (s : List ℤ). at s i) loaded ∙ fill-after t (y * w) e w i (omega arith)
 
-    pub row-more : Holds w (y + 1) g (back u (y * w) d)
+    pub row-more : HoldsIn n w (y + 1) g (back u (y * w) d)
     row-more = record {
       rows = λ v x l h. last-or-less v y (λ (i : ℕ). at (back u (y * w) d) (i * w + x) ≡ g i x) (omega arith) (this-row x h)
           (λ k. before-row (v * w + x) (omega (arith, mul-le-mul-right {m = suc v} {n = y} w k)) ∙ so-far .rows v x k h);
@@ -67,7 +67,7 @@ module _ (w y : ℕ) (g : ℕ → ℕ → ℤ) (e : ℕ → ℤ) (t u : List ℤ
 
 -- ---- columns: u has its first x columns passed
 
-module _ (kind : Kind) (m w h x : ℕ) (t u : List ℤ) (is-length : len (side h) ≡ h) (x<w : x < w) (room : h * w ≤ 1024) (so-far : Columned kind m w h t x u) where
+module _ {n : ℕ} (kind : Kind) (m w h x : ℕ) (t u : List ℤ) (is-length : len (side h) ≡ h) (x<w : x < w) (room : h * w ≤ n) (so-far : Columned n kind m w h t x u) where
   column-reach : (j : ℕ) → j < h → x + j * w < length u
   column-reach j l = omega (arith, so-far .long, by-row w h j x l x<w, room)
 
@@ -90,7 +90,7 @@ module _ (kind : Kind) (m w h x : ℕ) (t u : List ℤ) (is-length : len (side h
         ∙ line-own x w h u is-length (omega arith) column-reach kind m d r done y l
         ∙ ap (λ (s : List ℤ). at (pass kind (side h) m s .values) y) column-is
 
-    pub column-more : Columned kind m w h t (x + 1) (back u x d)
+    pub column-more : Columned n kind m w h t (x + 1) (back u x d)
     column-more = record {
       passed = λ y i l g. last-or-less i x (λ (j : ℕ). at (back u x d) (y * w + j) ≡ at (column-made kind m w h t j .values) y) (omega arith) (this-column y l)
           (λ k. others y i (omega arith) (λ z. omega arith) ∙ so-far .passed y i l k);

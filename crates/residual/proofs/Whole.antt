@@ -25,9 +25,9 @@ use Rattle.bitdepth.specs.declared.Depth.the-variants.{Eight, Ten, Twelve}
 use Rattle.bitdepth.specs.Depths.{row-range, column-range}
 use Rattle.levels.specs.declared.Plan.{Plan}
 use Rattle.residual.specs.Blocks.{way, row, middle, column, marked, if-wht}
-use Rattle.residual.specs.Inner.{fill, rounding, loaded, row-made, RowsAre, Holds, column-made, ColumnsAre, Sized, Coefs, Resolved}
+use Rattle.residual.specs.Inner.{fill, rounding, loaded, row-made, RowsAreIn, HoldsIn, column-made, ColumnsAreIn, Sized, Coefs, ResolvedIn}
 use Rattle.residual.proofs.Fills.{fill-after, fill-own}
-use Rattle.residual.proofs.Places.{by-row, by-column, area}
+use Rattle.residual.proofs.Places.{by-row, by-column}
 use Rattle.residual.proofs.Small.{entering-small, at-most}
 
 -- ---- sizes
@@ -49,7 +49,7 @@ at-tab P (suc n) f z h zero = h 0 (omega arith)
 at-tab P (suc n) f z h (suc i) = at-tab P n (λ j. f (suc j)) z (λ j l. h (suc j) (omega arith)) i
 
 -- what holds of zero and of the rows holds of every number of the block
-pub at-holds : (P : ℤ → Type 0) (w k : ℕ) (f : ℕ → ℕ → ℤ) (t : List ℤ) → 0 < w → Holds w k f t → P (pos 0) → ((y x : ℕ) → y < k → x < w → P (f y x)) → (i : ℕ) → P (at t i)
+pub at-holds : {n : ℕ} (P : ℤ → Type 0) (w k : ℕ) (f : ℕ → ℕ → ℤ) (t : List ℤ) → 0 < w → HoldsIn n w k f t → P (pos 0) → ((y x : ℕ) → y < k → x < w → P (f y x)) → (i : ℕ) → P (at t i)
 at-holds P w k f t some h z g i = go (ltb i (k * w)) refl
   where
     go : (b : Bool) → ltb i (k * w) ≡ b → P (at t i)
@@ -62,15 +62,15 @@ at-holds P w k f t some h z g i = go (ltb i (k * w)) refl
 
 -- ---- the steps together
 
-module _ (p : Plan) (d : Depth) (c : List ℤ) (r : ℕ) (t₁ t₂ t₃ : List ℤ) (m₁ m₂ : Bool) (sized : Sized p) (coefs : Coefs p c) (some-rows : r ≤ p .h)
-    (rowed : RowsAre p (row-range d) c r t₁ m₁)
+module _ {n : ℕ} (p : Plan) (d : Depth) (c : List ℤ) (r : ℕ) (t₁ t₂ t₃ : List ℤ) (m₁ m₂ : Bool) (sized : Sized p) (room : p .h * p .w ≤ n) (coefs : Coefs p c) (some-rows : r ≤ p .h)
+    (rowed : RowsAreIn n p (row-range d) c r t₁ m₁)
     (rounded : t₂ ≡ fill t₁ 0 (λ i. rounding p (low (column-range d)) (high (column-range d)) (at t₁ i)) (r * p .w))
   where
     abbrev between : ℤ → ℤ
     between = rounding p (low (column-range d)) (high (column-range d))
 
     inside : r * p .w ≤ length t₁
-    inside = omega (arith, rowed .elements .long, mul-le-mul-right {m = r} {n = p .h} (p .w) some-rows, area p sized)
+    inside = omega (arith, rowed .elements .long, mul-le-mul-right {m = r} {n = p .h} (p .w) some-rows, room)
 
     loaded-small : (y x : ℕ) → y < r → x < p .w → natAbs (loaded p c y x) ≤ 524288
     loaded-small y x l g = entering-small (p .rows) (p .w) (p .h) _ (coefs .small (y + x * p .h) (by-column (p .w) (p .h) y x (omega arith) g))
@@ -122,7 +122,7 @@ module _ (p : Plan) (d : Depth) (c : List ℤ) (r : ℕ) (t₁ t₂ t₃ : List 
     pub for-columns : (i : ℕ) → natAbs (at t₂ i) ≤ most (p .columns)
     for-columns i = block-small i .1
 
-    module _ (columned : ColumnsAre (p .columns) (column-range d) (p .w) (p .h) t₂ (p .w) t₃ m₂) where
+    module _ (columned : ColumnsAreIn n (p .columns) (column-range d) (p .w) (p .h) t₂ (p .w) t₃ m₂) where
       column-is : (x : ℕ) → x < p .w → column-made (p .columns) (column-range d) (p .w) (p .h) t₂ x ≡ column (way p d) c r x
       column-is x g = ap (pass (p .columns) (side (p .h)) (column-range d)) (tab-ext (p .h) _ _ (λ y l. middle-is y x g))
 
@@ -132,7 +132,7 @@ module _ (p : Plan) (d : Depth) (c : List ℤ) (r : ℕ) (t₁ t₂ t₃ : List 
           (le-trans (pass-small (side (p .h)) (column-range d) (tab (p .h) (λ v. at t₂ (v * p .w + x))) (p .columns) 2621442 (le-trans (column-range-small d) (lit≤ tt))
           (at-tab (λ z. natAbs z ≤ 2621442) (p .h) (λ v. at t₂ (v * p .w + x)) (lit≤ tt) (λ v k. block-small (v * p .w + x) .0)) y) (lit≤ tt))
 
-      pub resolved : Resolved p d c r t₃ (m₁ || m₂)
+      pub resolved : ResolvedIn n p d c r t₃ (m₁ || m₂)
       resolved = record {
         elements = λ y x l g. columned .elements .passed y x l g ∙ ap (λ (s : Passed). at (s .values) y) (column-is x g);
         small = column-small;

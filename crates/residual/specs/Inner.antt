@@ -24,11 +24,15 @@ unfoldable pub fill : List ℤ → ℕ → (ℕ → ℤ) → ℕ → List ℤ
 fill t from f zero = t
 fill t from f (suc k) = set (fill t from f k) (from + k) (f k)
 
--- the scratch block as w-wide rows: its first k rows hold f, and it is zero after them
-pub record Holds (w k : ℕ) (f : ℕ → ℕ → ℤ) (t : List ℤ) : Type 0 where
+-- a scratch block of n numbers as w-wide rows: its first k rows hold f, and it is zero after them
+pub record HoldsIn (n w k : ℕ) (f : ℕ → ℕ → ℤ) (t : List ℤ) : Type 0 where
   pub rows : (y x : ℕ) → y < k → x < w → at t (y * w + x) ≡ f y x
   pub rest : (i : ℕ) → k * w ≤ i → at t i ≡ pos 0
-  pub long : length t ≡ 1024
+  pub long : length t ≡ n
+
+-- that of all types but WHT_WHT
+abbrev pub Holds : ℕ → ℕ → (ℕ → ℕ → ℤ) → List ℤ → Type 0
+Holds = HoldsIn 1024
 
 -- a plan of one of the fourteen sizes
 pub record Sized (p : Plan) : Type 0 where
@@ -49,7 +53,7 @@ pub record RowLoads (p : Plan) (c : List ℤ) (y : ℕ) (t : List ℤ) : Type 0 
   pub sized : Sized p
   pub coefs : Coefs p c
   pub y-in : y < p .h
-  pub long : length t ≡ 1024
+  pub room : p .h * p .w ≤ length t
 
 abbrev pub rounding : Plan → ℤ → ℤ → ℤ → ℤ
 rounding p lo hi v = if-wht (p .rows) v (clip (round2 v (p .shift)) lo hi)
@@ -74,9 +78,12 @@ loaded p c y x = entering (p .rows) (p .w) (p .h) (at c (y + x * p .h))
 abbrev pub row-made : Plan → ℕ → List ℤ → ℕ → Passed
 row-made p m c y = pass (p .rows) (side (p .w)) m (tab (p .w) (loaded p c y))
 
-pub record RowsAre (p : Plan) (m : ℕ) (c : List ℤ) (k : ℕ) (t : List ℤ) (mark : Bool) : Type 0 where
-  pub elements : Holds (p .w) k (λ y x. at (row-made p m c y .values) x) t
+pub record RowsAreIn (n : ℕ) (p : Plan) (m : ℕ) (c : List ℤ) (k : ℕ) (t : List ℤ) (mark : Bool) : Type 0 where
+  pub elements : HoldsIn n (p .w) k (λ y x. at (row-made p m c y .values) x) t
   pub marked : mark ≡ any k (λ y. row-made p m c y .mark)
+
+abbrev pub RowsAre : Plan → ℕ → List ℤ → ℕ → List ℤ → Bool → Type 0
+RowsAre = RowsAreIn 1024
 
 -- the first k numbers, which an identity takes
 pub record Scales (k : ℕ) (t : List ℤ) : Type 0 where
@@ -137,10 +144,10 @@ pub record Quickly (q : Bool) (Done : Type 0) (t u : List ℤ) : Type 0 where
 abbrev pub column-made : Kind → ℕ → ℕ → ℕ → List ℤ → ℕ → Passed
 column-made kind m w h t x = pass kind (side h) m (tab h (λ y. at t (y * w + x)))
 
-pub record Columned (kind : Kind) (m w h : ℕ) (t : List ℤ) (k : ℕ) (u : List ℤ) : Type 0 where
+pub record Columned (n : ℕ) (kind : Kind) (m w h : ℕ) (t : List ℤ) (k : ℕ) (u : List ℤ) : Type 0 where
   pub passed : (y x : ℕ) → y < h → x < k → at u (y * w + x) ≡ at (column-made kind m w h t x .values) y
   pub waiting : (y x : ℕ) → y < h → k ≤ x → x < w → at u (y * w + x) ≡ at t (y * w + x)
-  pub long : length u ≡ 1024
+  pub long : length u ≡ n
 
 pub record ColumnsPass (kind : Kind) (w h : ℕ) (lo hi : ℤ) (t : List ℤ) : Type 0 where
   pub is-length : len (side h) ≡ h
@@ -151,9 +158,12 @@ pub record ColumnsPass (kind : Kind) (w h : ℕ) (lo hi : ℤ) (t : List ℤ) : 
   pub small : (i : ℕ) → natAbs (at t i) ≤ most kind
   pub long : length t ≡ 1024
 
-pub record ColumnsAre (kind : Kind) (m w h : ℕ) (t : List ℤ) (k : ℕ) (u : List ℤ) (mark : Bool) : Type 0 where
-  pub elements : Columned kind m w h t k u
+pub record ColumnsAreIn (n : ℕ) (kind : Kind) (m w h : ℕ) (t : List ℤ) (k : ℕ) (u : List ℤ) (mark : Bool) : Type 0 where
+  pub elements : Columned n kind m w h t k u
   pub marked : mark ≡ any k (λ x. column-made kind m w h t x .mark)
+
+abbrev pub ColumnsAre : Kind → ℕ → ℕ → ℕ → List ℤ → ℕ → List ℤ → Bool → Type 0
+ColumnsAre = ColumnsAreIn 1024
 
 -- the columns at once: what the loops ask, and give
 pub record Lays (rev : List ℕ) (t : List ℤ) (w h : ℕ) (u : List ℤ) : Type 0 where
@@ -173,15 +183,25 @@ pub record Taken (u : List ℤ) (w k : ℕ) (t : List ℤ) : Type 0 where
   pub long : length t ≡ 1024
 
 -- the whole: what it asks, and gives
-pub record Resolves (p : Plan) (c : List ℤ) (r : ℕ) (t : List ℤ) : Type 0 where
+pub record ResolvesIn (n : ℕ) (p : Plan) (c : List ℤ) (r : ℕ) (t : List ℤ) : Type 0 where
   pub sized : Sized p
   pub coefs : Coefs p c
   pub some-rows : r ≤ p .h
   pub empty : (i : ℕ) → at t i ≡ pos 0
-  pub long : length t ≡ 1024
+  pub long : length t ≡ n
 
-pub record Resolved (p : Plan) (d : Depth) (c : List ℤ) (r : ℕ) (t : List ℤ) (mark : Bool) : Type 0 where
+abbrev pub Resolves : Plan → List ℤ → ℕ → List ℤ → Type 0
+Resolves = ResolvesIn 1024
+
+pub record ResolvedIn (n : ℕ) (p : Plan) (d : Depth) (c : List ℤ) (r : ℕ) (t : List ℤ) (mark : Bool) : Type 0 where
   pub elements : (y x : ℕ) → y < p .h → x < p .w → at t (y * p .w + x) ≡ at (column (way p d) c r x .values) y
   pub small : (y x : ℕ) → y < p .h → x < p .w → natAbs (at t (y * p .w + x)) ≤ 16777216
-  pub long : length t ≡ 1024
+  pub long : length t ≡ n
   pub mark-is : mark ≡ marked (way p d) c r
+
+abbrev pub Resolved : Plan → Depth → List ℤ → ℕ → List ℤ → Bool → Type 0
+Resolved = ResolvedIn 1024
+
+-- the plan of WHT_WHT, whose shift no step takes
+abbrev pub wht-plan : ℕ → Plan
+wht-plan shift = record { w = 4; h = 4; shift = shift; rows = Wht; columns = Wht }

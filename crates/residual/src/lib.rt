@@ -17,6 +17,7 @@ use itx_1d::Kind;
 use itx_1d::REV;
 use itx_1d::identity_of;
 use itx_1d::inv_1d;
+use itx_1d::wht4;
 use lanes::dct;
 use levels::Plan;
 
@@ -350,6 +351,43 @@ fn columns(
         return false;
     }
     columns_by_line(t, plan, min, max)
+}
+
+// Steps 1 to 3 of WHT_WHT on rows 0..r-1.
+fn rows_of_wht(t: &mut [i32], coeff: &[i32], r: usize)
+    requires { ⌜ Inner.ResolvesIn 16 (Inner.wht-plan 0) (now coeff) r (now t) ⌝ }
+    ensures { λ _. ⌜ Inner.HoldsIn 16 4 r (λ y x. at (Inner.row-made (Inner.wht-plan 0) 0 (now (coeff .entry)) y .values) x) (now (t .exit)) ⌝ }
+{
+    let plan = Plan {
+        w: 4,
+        h: 4,
+        shift: 0,
+        rows: Kind::Wht,
+        columns: Kind::Wht,
+    };
+    for y in 0..r {
+        load_row(&mut *t, plan, coeff, y);
+        wht4(&mut t[y * 4..], 1);
+    }
+}
+
+// Step 5 of WHT_WHT.
+fn columns_of_wht(t: &mut [i32])
+    requires { ⌜ (length (now t) ≡ 16) × ((i : ℕ) → natAbs (at (now t) i) ≤ 16777216) ⌝ }
+    ensures { λ _. ⌜ Inner.Columned 16 Kind.Wht 0 4 4 (now (t .entry)) 4 (now (t .exit)) ⌝ }
+{
+    for x in 0..4 {
+        wht4(&mut t[x..], 4);
+    }
+}
+
+// Steps 1 to 5 of WHT_WHT with r live rows, on sixteen zeros. No pass has the mark.
+pub fn resolve_wht(t: &mut [i32], coeff: &[i32], r: usize)
+    requires { ⌜ Inner.ResolvesIn 16 (Inner.wht-plan 0) (now coeff) r (now t) ⌝ }
+    ensures { λ _. ⌜ ((shift : ℕ) (depth : Depth) → Inner.ResolvedIn 16 (Inner.wht-plan shift) depth (now (coeff .entry)) r (now (t .exit)) Bool.false) ⌝ }
+{
+    rows_of_wht(&mut *t, coeff, r);
+    columns_of_wht(&mut *t);
 }
 
 // Steps 1 to 5 with r live rows, on a scratch block of zeros.

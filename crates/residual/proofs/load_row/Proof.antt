@@ -11,7 +11,7 @@ use mir.ValLaws.{toZ-ofZ}
 use Rattle.whole.specs.Lists.{at}
 use Rattle.residual.specs.Inner.{entering, fill}
 use Rattle.residual.proofs.Fills.{fill-length}
-use Rattle.residual.proofs.Places.{by-column, w-small, h-small, in-block}
+use Rattle.residual.proofs.Places.{by-column, by-row, w-small, h-small, area}
 use Rattle.residual.proofs.load_row.Statement.{statement}
 use Rattle.residual.proofs.load_row.Tie as tie
 
@@ -28,8 +28,11 @@ start c = c .before .before
 there : (c : tie.In-loop Inv-loop μ-loop) → let s = start c in s .args .y + c .before .loop .x * s .args .plan .h < length (s .args .coeff .now)
 there c = let s = start c in omega (arith, by-column (s .args .plan .w) (s .args .plan .h) (s .args .y) (c .before .loop .x) (s .pre .y-in) (c .loop-test .taken), s .pre .coefs .count)
 
-here : (c : tie.In-loop Inv-loop μ-loop) → let s = start c in s .args .y * s .args .plan .w + c .before .loop .x < 1024
-here c = let s = start c in in-block (s .args .plan) (s .pre .sized) (s .args .y) (c .before .loop .x) (s .pre .y-in) (c .loop-test .taken)
+here : (c : tie.In-loop Inv-loop μ-loop) → let s = start c in s .args .y * s .args .plan .w + c .before .loop .x < s .args .plan .h * s .args .plan .w
+here c = let s = start c in by-row (s .args .plan .w) (s .args .plan .h) (s .args .y) (c .before .loop .x) (s .pre .y-in) (c .loop-test .taken)
+
+small-place : (c : tie.In-loop Inv-loop μ-loop) → let s = start c in s .args .y * s .args .plan .w + c .before .loop .x < 1024
+small-place c = let s = start c in omega (arith, here c, area (s .args .plan) (s .pre .sized))
 
 as-long : (c : tie.At-loop Inv-loop μ-loop) → length (c .loop .t) ≡ length (c .before .args .t .now)
 as-long c = ap length (c .loop .inv .0) ∙ fill-length _ _ _ (c .loop .x)
@@ -80,11 +83,11 @@ load-row-spec =
     (λ c. omega (arith, there c))
     (λ c. there c)
     enter-requires
-    (λ c. omega (arith, here (c .before .before)))
-    (λ c. omega (arith, here (c .before .before)))
-    (λ c. omega (arith, here (c .before .before)))
-    (λ c. omega (arith, here (c .before .before), as-long (c .before .before .before), start (c .before .before) .pre .long))
-    (λ c. omega (arith, here (c .before .before)))
+    (λ c. omega (arith, small-place (c .before .before)))
+    (λ c. omega (arith, small-place (c .before .before)))
+    (λ c. omega (arith, small-place (c .before .before)))
+    (λ c. omega (arith, here (c .before .before), as-long (c .before .before .before), start (c .before .before) .pre .room))
+    (λ c. omega (arith, small-place (c .before .before)))
     (λ c. omega arith)
     loop-again
     (λ c. as-long (c .before))

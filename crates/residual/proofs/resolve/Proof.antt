@@ -55,7 +55,7 @@ round-requires c κs =
     record {
       shift-small = s .pre .sized .shift-small;
       inside = omega (arith, few a, rowed a .elements .long);
-      small = λ i. le-trans (rowed-small (s .args .plan) (s .args .depth) (s .args .coeff .now) (s .args .r) (a .rows .last .0) _ [] (a .rows .result) (a .rows .result) (s .pre .sized) (s .pre .coefs) (s .pre .some-rows) (rowed a) refl i) (lit≤ tt);
+      small = λ i. le-trans (rowed-small (s .args .plan) (s .args .depth) (s .args .coeff .now) (s .args .r) (a .rows .last .0) _ [] (a .rows .result) (a .rows .result) (s .pre .sized) (area (s .args .plan) (s .pre .sized)) (s .pre .coefs) (s .pre .some-rows) (rowed a) refl i) (lit≤ tt);
     }
 
 -- after the rounding
@@ -85,7 +85,7 @@ columns-requires c κs =
         room = area (q .args .plan) (q .pre .sized);
         lined = q .pre .sized .column-length;
         limited = as-held (column-reach (q .args .depth)) e (Limited (q .args .plan .columns)) (limited (column-reach (q .args .depth)) (q .args .plan .columns));
-        small = for-columns (q .args .plan) (q .args .depth) (q .args .coeff .now) (q .args .r) (a .rows .last .0) (b .round .last .0) [] (a .rows .result) (a .rows .result) (q .pre .sized) (q .pre .coefs) (q .pre .some-rows) (rowed a) (rounded b);
+        small = for-columns (q .args .plan) (q .args .depth) (q .args .coeff .now) (q .args .r) (a .rows .last .0) (b .round .last .0) [] (a .rows .result) (a .rows .result) (q .pre .sized) (area (q .args .plan) (q .pre .sized)) (q .pre .coefs) (q .pre .some-rows) (rowed a) (rounded b);
         long = ap length (b .round .ensures) ∙ fill-length _ _ _ (q .args .r * q .args .plan .w) ∙ rowed a .elements .long;
       },
       record { table = refl; u-long = a .rows .ensures .1 },
@@ -100,7 +100,7 @@ returns c =
     let p = q .args .plan in
     let e = b .before .before .before .before .column-range .ensures in
     let columned = subst (λ (m : ℕ). ColumnsAre (p .columns) m (p .w) (p .h) (b .round .last .0) (p .w) (d .columns .last .0) (d .columns .result)) (m-is (column-reach (q .args .depth)) e) (d .columns .ensures) in
-    resolved p (q .args .depth) (q .args .coeff .now) (q .args .r) (a .rows .last .0) (b .round .last .0) (d .columns .last .0) (a .rows .result) (d .columns .result) (q .pre .sized) (q .pre .coefs) (q .pre .some-rows) (rowed a) (rounded b) columned
+    resolved p (q .args .depth) (q .args .coeff .now) (q .args .r) (a .rows .last .0) (b .round .last .0) (d .columns .last .0) (a .rows .result) (d .columns .result) (q .pre .sized) (area (q .args .plan) (q .pre .sized)) (q .pre .coefs) (q .pre .some-rows) (rowed a) (rounded b) columned
 
 pub resolve-spec : {M : Type 1} → statement M
 resolve-spec =

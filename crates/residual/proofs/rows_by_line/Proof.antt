@@ -37,7 +37,7 @@ load-row-requires : tie.Need-load-row-requires Inv-loop μ-loop
 load-row-requires c κs =
     let i = c .before in
     let s = i .before .before in
-    record { sized = s .pre .sized; coefs = s .pre .coefs; y-in = omega (arith, i .loop-test .taken, s .pre .some-rows); long = i .before .loop .inv .0 .elements .long }
+    record { sized = s .pre .sized; coefs = s .pre .coefs; y-in = omega (arith, i .loop-test .taken, s .pre .some-rows); room = omega (arith, area (s .args .plan) (s .pre .sized), i .before .loop .inv .0 .elements .long) }
 
 -- after row y was loaded
 module _ (c : tie.After-load-row Inv-loop μ-loop) where

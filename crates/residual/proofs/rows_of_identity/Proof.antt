@@ -74,7 +74,7 @@ rows-of-identity-spec =
     (λ c κs.
     let i = c .before in
     let s = i .before .before in
-    record { sized = s .pre .0 .sized; coefs = s .pre .0 .coefs; y-in = omega (arith, i .loop-test .taken, s .pre .0 .some-rows); long = i .before .loop .inv .0 .long })
+    record { sized = s .pre .0 .sized; coefs = s .pre .0 .coefs; y-in = omega (arith, i .loop-test .taken, s .pre .0 .some-rows); room = omega (arith, area (s .args .plan) (s .pre .0 .sized), i .before .loop .inv .0 .long) })
     (λ c. omega arith)
     (λ c. omega arith)
     loop-again

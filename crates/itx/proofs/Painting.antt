@@ -1,0 +1,74 @@
+-- A block's numbers, added to its pixels: what adding them asks, and what it leaves, whatever the length of the scratch block.
+use mathlib.Core.Path.{_≡_, refl, ap, _∙_, subst}
+use mathlib.Core.Bool.{Bool, false}
+use mathlib.Core.List.{List, _++_}
+use Prim.Native.Nat.{ℕ, zero, suc, _+_, _*_, _≤_}
+use native.Mathlib.Omega.{arith}
+use lib.Dec.{lit≤}
+use lib.IntN.{ℤ, pos}
+use lib.ListN.{length, replicate, drop}
+use Rattle.whole.specs.Lists.{at}
+use Rattle.levels.specs.declared.Plan.{Plan}
+use Rattle.levels.proofs.Sizes.{side-bounds}
+use Rattle.itx_1d.specs.declared.Kind.{Kind}
+use Rattle.itx_1d.specs.declared.Kind.the-variants.{Wht}
+use Rattle.itx_1d.specs.Inner.{Lined}
+use Rattle.bitdepth.specs.declared.Depth.{Depth}
+use Rattle.bitdepth.specs.Depths.{maximum}
+use Rattle.strided.specs.Planes.{lent, in-pixels, rows-outside}
+use Rattle.pixels.specs.Adds.{add-pixel, add-rows}
+use Rattle.pixels.specs.Inner.{left, Adding}
+use Rattle.pixels.proofs.Pixels.{rows-ext}
+use Rattle.residual.specs.Blocks.{way, residual}
+use Rattle.residual.specs.Inner.{Sized, ResolvedIn, wht-plan}
+use Rattle.residual.proofs.Places.{by-row}
+use Rattle.itx.specs.Answers.{Ready, Passed}
+
+pub zeros-at : (n i : ℕ) → at (replicate n (pos 0)) i ≡ pos 0
+zeros-at zero i = refl
+zeros-at (suc n) zero = refl
+zeros-at (suc n) (suc i) = zeros-at n i
+
+module _ {p : Plan} {d : Depth} {offset : ℕ} {stride : ℤ} {r : ℕ} {ps : List ℕ} {c : List ℤ} {n : ℕ} {t : List ℤ} {mark : Bool} (m : ResolvedIn n p d c r t mark) where
+  pub adding : Sized p → p .h * p .w ≤ n → rows-outside (length ps) offset stride (p .w) (p .h) ≡ false → Adding offset stride (p .w) (p .w) (p .h) ps t
+  adding k room inside =
+      record {
+        height = side-bounds (p .h) (k .height) .1;
+        step-small = side-bounds (p .w) (k .width) .1;
+        inside = inside;
+        numbers = λ y l. record { there = λ x b. omega (arith, by-row (p .w) (p .h) y x l b, room, m .long); small = λ x b. m .small y x l b };
+      }
+
+  pub painted : {top : ℕ} {ps′ : List ℕ} {c′ : List ℤ} → top ≡ maximum d
+      → ((bytes : ℤ) → in-pixels bytes ≡ stride → ps′ ≡ add-rows (lent ps offset bytes) top (λ y x. left (p .columns) (at t (y * p .w + x))) (p .w) (p .h))
+      → c′ ≡ replicate (p .w * p .h) (pos 0) ++ drop (p .w * p .h) c → Passed p d offset stride r ps c mark ps′ c′
+  painted top-is added cleared =
+      let v : ℕ → ℕ → ℤ = λ y x. left (p .columns) (at t (y * p .w + x)) in
+      let u = residual (way p d) c r in
+      record {
+        mark-is = m .mark-is;
+        added = record {
+          pixels-are = λ bytes e.
+              added bytes e
+              ∙ ap (λ (q : ℕ). add-rows (lent ps offset bytes) q v (p .w) (p .h)) top-is
+              ∙ rows-ext (lent ps offset bytes) (maximum d) v u (p .w) (p .h) (λ y x l b. ap (add-pixel (maximum d) _) (ap (left (p .columns)) (m .elements y x l b)));
+        };
+        coefs-are = cleared;
+      }
+
+-- a plan whose rows are WHT4 is that of WHT_WHT
+pub is-wht : (p : Plan) → Sized p → p .rows ≡ Wht → p ≡ wht-plan (p .shift)
+is-wht p k e =
+    let both = k .wht-both e in
+    let wide : p .w ≡ 4 = subst (λ (q : Kind). Lined q (p .w)) e (k .row-length) in
+    let high : p .h ≡ 4 = subst (λ (q : Kind). Lined q (p .h)) both (k .column-length) in
+    λ i. record { w = wide i; h = high i; shift = p .shift; rows = e i; columns = both i }
+
+-- whose shift no step takes
+pub any-shift : {shift offset : ℕ} {stride : ℤ} {ps : List ℕ} {c : List ℤ} → Ready (wht-plan shift) offset stride ps c → Ready (wht-plan 0) offset stride ps c
+any-shift a =
+    record {
+      sized = record { width = refl; height = refl; shift-small = lit≤ tt; row-length = refl; column-length = refl; wht-both = λ e. refl };
+      coefs = record { count = a .coefs .count; small = a .coefs .small };
+      inside = a .inside;
+    }
