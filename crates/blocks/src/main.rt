@@ -80,8 +80,8 @@ fn read_failed() {
 }
 
 fn main() {
-    let mut input = [0u8; 65536];
-    let mut output = [0u8; 65536];
+    let mut input = [0u8; 32768];
+    let mut output = [0u8; 32768];
     let mut at: usize = 0;
     let mut have: usize = 0;
     let mut put: usize = 0;
@@ -98,7 +98,7 @@ fn main() {
                 put = end;
                 record += 1;
                 // A record takes up to 10265 bytes, and the next has to find room.
-                if 55271 < put {
+                if 22503 < put {
                     if !flush(&output[..put]) {
                         return;
                     }

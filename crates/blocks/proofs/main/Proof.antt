@@ -13,10 +13,10 @@ use Rattle.blocks.proofs.main.Tie as tie
 
 record Held (input output : List ℕ) (at have put i turns : ℕ) : Type 0 where
   runs : Running input output at have put i
-  room : put ≤ 55271
+  room : put ≤ 22503
   counted : i + turns ≤ 18446744073709551615
-  input-length : 65536 ≡ length input
-  output-length : 65536 ≡ length output
+  input-length : 32768 ≡ length input
+  output-length : 32768 ≡ length output
 
 abbrev Inv-loop : tie.InvT-loop
 Inv-loop input₀ output₀ at₀ have₀ put₀ record₀ is-last₀ turns₀ input output at have put «record» is-last turns =
@@ -39,7 +39,7 @@ did c =
     let l = top c .loop in
     does (l .«record») (take (l .have) (l .input)) (l .at) (l .output) (l .put) (out c) (c .step .ensures)
 
-same-output : (c : tie.After-step Inv-loop μ-loop) → 65536 ≡ length (out c)
+same-output : (c : tie.After-step Inv-loop μ-loop) → 32768 ≡ length (out c)
 same-output c = omega (arith, top c .loop .inv .output-length, c .step .kept)
 
 -- something was written
@@ -78,7 +78,7 @@ runs3 c = to-the-front (flushed (runs2 (told c))) (c .to-front .ensures) (c .to-
 abbrev front : tie.After-fill Inv-loop μ-loop → tie.After-to-front Inv-loop μ-loop
 front c = c .before .before .before
 
-same-input : (c : tie.After-fill Inv-loop μ-loop) → 65536 ≡ length (c .fill .last .0)
+same-input : (c : tie.After-fill Inv-loop μ-loop) → 32768 ≡ length (c .fill .last .0)
 same-input c = omega (arith, top (step2 (told (front c))) .loop .inv .input-length, front c .to-front .kept, c .fill .kept)
 
 loop-holds : tie.Need-loop-holds Inv-loop μ-loop
