@@ -1,6 +1,6 @@
 -- Laws of a pass, each for every kind and every length.
 use mathlib.Core.Path.{_≡_, refl, sym, ap, _∙_, subst⁻¹}
-use mathlib.Core.Bool.{true, false}
+use mathlib.Core.Bool.{true, false, cond}
 use mathlib.Core.List.{List, [], _∷_, map}
 use Prim.Native.Nat.{ℕ, zero, suc, _+_, _*_, _-_, _^_, _≤_}
 use native.Mathlib.Nat.{le-trans}
@@ -20,6 +20,7 @@ use Rattle.av1.specs.Values.{exact, clipped}
 use Rattle.av1.specs.Passes.{av1-identity, av1-wht}
 use Rattle.av1.proofs.Known as Known
 use Rattle.av1.proofs.Unclipped.{unclipped}
+use Rattle.itx_1d.specs.Manners.{four-only}
 use Rattle.itx_1d.specs.Passes.{Passed, identity, wht, pass, av1-pass}
 use Rattle.itx_1d.specs.Passes as Passes
 use Rattle.itx_1d.specs.declared.Kind.{Kind}
@@ -199,11 +200,8 @@ module _ (n : Side) (m : ℕ) (xs : List ℤ) where
   pass-small Identity k l h i = subst⁻¹ (λ (z : ℤ). natAbs z ≤ 5 * k + 2) (identity-at n xs i) (identity-small n (at xs i) k (h i))
   pass-small Wht k l h i = wht-small (at xs 0) (at xs 1) (at xs 2) (at xs 3) k (h 0, (h 1, (h 2, (h 3, tt)))) i
 
-  -- the WHT has one length
   abbrev pub left : Kind → ℕ
-  left Dct = len n
-  left Identity = len n
-  left Wht = 4
+  left kind = cond (four-only kind) 4 (len n)
 
   pub pass-length : (kind : Kind) → length xs ≡ len n → length (pass kind n m xs .values) ≡ left kind
   unfolding pass wht

@@ -1,7 +1,7 @@
 // The type numbers of src/levels.rs, and the decision on size and type that inv_txfm_add_rust makes.
 ghost use mathlib.Core.Path.{_≡_};
 ghost use Prim.Native.Nat.{_≤_};
-ghost use Rattle.levels.specs.Plans.{decision-of, shift-check, shift-of, kinds-check, where-small, kinds-of, plan};
+ghost use Rattle.levels.specs.Plans.{decision-of, shift-check, shift-of, kinds-check, small, only-4x4, kinds-at, kinds-of, plan};
 use itx_1d::Kind;
 
 pub const DCT_DCT: usize = 0;
@@ -72,7 +72,7 @@ pub fn size_shift(w: usize, h: usize) -> SizeCheck
 // V_DCT and H_DCT are not for every size.
 fn mixed(w: usize, h: usize, rows: Kind, columns: Kind) -> TypeCheck
     requires { ⌜ (w ≤ 32) × (h ≤ 32) ⌝ }
-    ensures { λ r. ⌜ kinds-check r ≡ where-small w h rows columns ⌝ }
+    ensures { λ r. ⌜ kinds-check r ≡ kinds-at small w h rows columns ⌝ }
 {
     match w * h {
         0..=128 => TypeCheck::Kinds(rows, columns),
@@ -86,6 +86,19 @@ fn mixed(w: usize, h: usize, rows: Kind, columns: Kind) -> TypeCheck
     }
 }
 
+// Types of passes that have four points alone.
+fn at_4x4(w: usize, h: usize, rows: Kind, columns: Kind) -> TypeCheck
+    ensures { λ r. ⌜ kinds-check r ≡ kinds-at only-4x4 w h rows columns ⌝ }
+{
+    match w {
+        4 => match h {
+            4 => TypeCheck::Kinds(rows, columns),
+            _ => TypeCheck::NoKinds,
+        },
+        _ => TypeCheck::NoKinds,
+    }
+}
+
 fn type_kinds(w: usize, h: usize, txtp: usize) -> TypeCheck
     requires { ⌜ (w ≤ 32) × (h ≤ 32) ⌝ }
     ensures { λ r. ⌜ kinds-check r ≡ kinds-of w h txtp ⌝ }
@@ -95,13 +108,7 @@ fn type_kinds(w: usize, h: usize, txtp: usize) -> TypeCheck
         IDTX => TypeCheck::Kinds(Kind::Identity, Kind::Identity),
         V_DCT => mixed(w, h, Kind::Identity, Kind::Dct),
         H_DCT => mixed(w, h, Kind::Dct, Kind::Identity),
-        WHT_WHT => match w {
-            4 => match h {
-                4 => TypeCheck::Kinds(Kind::Wht, Kind::Wht),
-                _ => TypeCheck::NoKinds,
-            },
-            _ => TypeCheck::NoKinds,
-        },
+        WHT_WHT => at_4x4(w, h, Kind::Wht, Kind::Wht),
         _ => TypeCheck::NoKinds,
     }
 }

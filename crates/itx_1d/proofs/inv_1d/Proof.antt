@@ -3,6 +3,7 @@ use mathlib.Core.Path.{_≡_, refl, sym, ap, subst, subst⁻¹}
 use mathlib.Core.List.{List}
 use mathlib.Core.Bool.{Bool, false}
 use Prim.Native.Nat.{ℕ}
+use lib.Dec.{eqb→eq}
 use lib.IntN.{ℤ, natAbs}
 use mir.Syntax.{w32}
 use mir.ValLaws.{toZ-ofZ}
@@ -44,7 +45,7 @@ returns-3 c =
     let d = c .before in
     let e = d .before .before in
     let s = e .before .before in
-    let four = asked s Wht (e .enum-told3 .given .1) .lined in
+    let four = eqb→eq (s .args .n) 4 (asked s Wht (e .enum-told3 .given .1) .lined) in
     given s Wht (e .enum-told3 .given .1)
     (subst⁻¹ (λ (n : ℕ). PassIs Wht n (s .args .stride) (natAbs (s .args .min)) (s .args .c .now) (d .wht4 .last .0) false) four (any-range (d .wht4 .ensures)))
 
@@ -56,14 +57,14 @@ inv-1d-spec =
     (λ c κs.
     let s = c .before .before .before in
     let a = asked s Dct (c .before .enum-told .given .1) in
-    (a .able, to2 Ranged (s .fits .min) (s .fits .max) (a .limited)))
+    (a .able, to2 Ranged (s .fits .min) (s .fits .max) (a .limited tt)))
     (λ c. search needs)
     (λ c κs. asked (c .before .before .before) Identity (c .before .enum-told2 .given .1) .able)
     (λ c. search needs)
     (λ c κs.
     let s = c .before .before .before in
     let a = asked s Wht (c .before .enum-told3 .given .1) in
-    subst (λ (n : ℕ). Passable (s .args .c .now) (s .args .stride) n 16777216) (a .lined) (a .able))
+    subst (λ (n : ℕ). Passable (s .args .c .now) (s .args .stride) n 16777216) (eqb→eq (s .args .n) 4 (a .lined)) (a .able))
     (λ c. search needs)
     returns
     (λ c. search needs)

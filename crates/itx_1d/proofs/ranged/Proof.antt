@@ -4,7 +4,7 @@ use mathlib.Core.Bool.{Bool}
 use mathlib.Core.List.{List, [], _∷_}
 use mathlib.Core.Option.{Option}
 use Prim.Native.Nat.{ℕ, _*_, _-_, _≤_}
-use lib.Dec.{T, eqb, leb}
+use lib.Dec.{eqb, leb}
 use lib.IntN.{ℤ, natAbs}
 use lib.ListN.{length}
 use mir.Syntax.{w32}
@@ -17,13 +17,12 @@ use Rattle.whole.specs.Numbers.{outside}
 use Rattle.whole.specs.Lists.{at, first}
 use Rattle.whole.proofs.Held.{to2}
 use Rattle.av1.specs.Sides.{side}
-use Rattle.itx_1d.specs.declared.Kind.{Kind}
-use Rattle.itx_1d.specs.declared.Kind.the-variants.{Dct, Identity, Wht}
 use Rattle.itx_1d.specs.declared.Pass.{Pass}
 use Rattle.itx_1d.specs.declared.Pass.the-variants.{Done}
 use Rattle.itx_1d.specs.Calls as Calls
 use Rattle.itx_1d.specs.Calls.{Outcome, bad-range, accepted, Meets}
-use Rattle.itx_1d.specs.Inner.{range-check, checked, Ranged, Passable, Passing, PassIs, takes-range}
+use Rattle.itx_1d.specs.Inner.{range-check, checked, Passable, Passing, PassIs}
+use Rattle.itx_1d.proofs.Manners.{most-ranged}
 use Rattle.itx_1d.proofs.Accepted.{verdict, defined, Good, good, accepted-is, refused-is, passable, ranged-of, ranged-is, done}
 use Rattle.itx_1d.proofs.Pass.{the-type}
 use Rattle.itx_1d.proofs.Through.{ends-of}
@@ -76,12 +75,6 @@ all-good t =
     let s = start e in
     good (range s) (none-apart s) (short s) (offender s) (sym (checked-is e) ∙ t .enum-told .given .1)
 
--- a DCT or an identity asks the same
-passing : (kind : Kind) (c : List ℤ) (n s : ℕ) (lo hi : ℤ) → T (takes-range kind) → Ranged lo hi → Passable c s n 524288 → Passing kind c n s lo hi
-passing Dct c n s lo hi t r p = record { lined = tt; limited = r; able = p }
-passing Identity c n s lo hi t r p = record { lined = tt; limited = tt; able = p }
-passing Wht c n s lo hi t r p = absurd t
-
 inv-1d-requires : tie.Need-inv-1d-requires
 inv-1d-requires c κs =
     let t = c .before in
@@ -89,7 +82,8 @@ inv-1d-requires c κs =
     let g = all-good t in
     let r = ranged-of (s .args .min) (s .args .max) (g .range) in
     let p = passable (s .args .c .now) (s .args .stride) (s .args .n) (s .args .min) (s .args .max) (s .pre .is-length) (ends-of r .low) (ends-of r .high) g in
-    to2 (Passing (s .args .kind) (s .args .c .now) (s .args .n) (s .args .stride)) (s .fits .min) (s .fits .max) (passing (s .args .kind) (s .args .c .now) (s .args .n) (s .args .stride) (s .args .min) (s .args .max) (s .pre .range) r p)
+    let able = subst⁻¹ (Passable (s .args .c .now) (s .args .stride) (s .args .n)) (most-ranged (s .args .kind) (s .pre .range)) p in
+    to2 (Passing (s .args .kind) (s .args .c .now) (s .args .n) (s .args .stride)) (s .fits .min) (s .fits .max) (record { lined = s .pre .lined; limited = λ t. r; able = able })
 
 returns-2 : tie.Need-returns-2
 returns-2 c =

@@ -1,15 +1,9 @@
 use mathlib.Core.Path.{sym, ap, _∙_}
 use borrow.Author.Needs.{needs}
-use borrow.Author.Tests.{eq-eqb, ne-eqb}
+use borrow.Author.Tests.{ne-eqb}
 use Rattle.levels.specs.Plans.{kinds-of}
 use Rattle.levels.proofs.type_kinds.Statement.{statement}
 use Rattle.levels.proofs.type_kinds.Tie as tie
-
-mixed-requires : tie.Need-mixed-requires
-mixed-requires c κs = search needs
-
-mixed-requires-2 : tie.Need-mixed-requires-2
-mixed-requires-2 c κs = search needs
 
 returns : tie.Need-returns
 returns c = let a = c .before .args in ap (kinds-of (a .w) (a .h)) (sym (c .match .keys1))
@@ -24,18 +18,12 @@ returns-4 : tie.Need-returns-4
 returns-4 c = let a = c .before .before .args in c .mixed2 .ensures ∙ ap (kinds-of (a .w) (a .h)) (sym (c .before .match .keys4))
 
 returns-5 : tie.Need-returns-5
-returns-5 c = rw (c .before .before .match .keys5) (simp (eq-eqb _ 4 (c .before .match2 .keys1), eq-eqb _ 4 (c .match3 .keys1)))
+returns-5 c = let a = c .before .before .args in c .at-4x4 .ensures ∙ ap (kinds-of (a .w) (a .h)) (sym (c .before .match .keys5))
 
 returns-6 : tie.Need-returns-6
-returns-6 c = rw (c .before .before .match .keys5) (simp (eq-eqb _ 4 (c .before .match2 .keys1), ne-eqb _ 4 (c .match3 .rest .1)))
-
-returns-7 : tie.Need-returns-7
-returns-7 c = rw (c .before .match .keys5) (simp (ne-eqb _ 4 (c .match2 .rest .1)))
-
-returns-8 : tie.Need-returns-8
-returns-8 c =
+returns-6 c =
     let n = c .match .rest in
     simp (ne-eqb _ 0 (n .0 .0 .0 .0 .1), ne-eqb _ 9 (n .0 .0 .0 .1), ne-eqb _ 10 (n .0 .0 .1), ne-eqb _ 11 (n .0 .1), ne-eqb _ 16 (n .1))
 
 pub type-kinds-spec : {M : Type 1} → statement M
-type-kinds-spec = tie.close (tie.spec mixed-requires mixed-requires-2 returns returns-2 returns-3 returns-4 returns-5 returns-6 returns-7 returns-8)
+type-kinds-spec = tie.close (tie.spec (λ c κs. search needs) (λ c κs. search needs) (λ c κs. search needs) returns returns-2 returns-3 returns-4 returns-5 returns-6)
