@@ -1,4 +1,4 @@
--- The nine public passes: document 01, "One-dimensional passes" and "Numbers of refusal", 11 to 14.
+-- The public passes: document 01, "One-dimensional passes" and "Numbers of refusal", 11 to 14.
 use mathlib.Core.Bool.{Bool, true, false, not, cond, _&&_, _||_}
 use mathlib.Core.List.{List}
 use mathlib.Core.Path.{_≡_}
@@ -73,7 +73,7 @@ abbrev pub outcome-of : List ℤ → Outcome → Check (Unit {0}) → Outcome
 outcome-of c o (accept u) = o
 outcome-of c o (refuse n i) = record { answer = refusal n i; elements = c }
 
--- a DCT or identity pass takes its range, which number 11 judges first
+-- every pass but the WHT takes its range, which number 11 judges first
 unfoldable pub ranged : Kind → Side → List ℤ → ℕ → ℤ → ℤ → Outcome
 ranged kind n c s lo hi = outcome-of c (accepted kind n (natAbs lo) s c) (unless (bad-range lo hi) 11 (checks (len n) c s lo hi))
 

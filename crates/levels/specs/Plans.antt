@@ -5,7 +5,7 @@ use Prim.Native.Nat.{ℕ, _*_}
 use lib.Dec.{eqb, leb}
 use Rattle.whole.specs.Checks.{Check, accept, refuse, then}
 use Rattle.itx_1d.specs.declared.Kind.{Kind}
-use Rattle.itx_1d.specs.declared.Kind.the-variants.{Dct, Identity, Wht}
+use Rattle.itx_1d.specs.declared.Kind.the-variants.{Dct, Identity, Wht, Adst, FlipAdst}
 use Rattle.levels.specs.declared.Decision.{Decision}
 use Rattle.levels.specs.declared.Decision.the-variants.{Planned, NoSize, NoType}
 use Rattle.levels.specs.declared.SizeCheck.{SizeCheck}
@@ -54,13 +54,26 @@ pub record TxType : Type 0 where
 abbrev pub tx : ℕ → Sizes → Kind → Kind → TxType
 tx number sizes rows columns = record { number = number; sizes = sizes; rows = rows; columns = columns }
 
--- DCT_DCT is 0, IDTX 9, V_DCT 10, H_DCT 11, WHT_WHT 16
+-- document 01's types: DCT_DCT is 0, IDTX 9, V_DCT 10, H_DCT 11, WHT_WHT 16. Those of request E9, in the order of their numbers: ADST_DCT, DCT_ADST, ADST_ADST, FLIPADST_DCT,
+-- DCT_FLIPADST, FLIPADST_FLIPADST, ADST_FLIPADST, FLIPADST_ADST; V_ADST, H_ADST, V_FLIPADST, H_FLIPADST. `inv_txfm_add_rust` names the column pass first.
 abbrev pub types : List TxType
 types =
     tx 0 every Dct Dct
+    ∷ tx 1 only-4x4 Dct Adst
+    ∷ tx 2 only-4x4 Adst Dct
+    ∷ tx 3 only-4x4 Adst Adst
+    ∷ tx 4 only-4x4 Dct FlipAdst
+    ∷ tx 5 only-4x4 FlipAdst Dct
+    ∷ tx 6 only-4x4 FlipAdst FlipAdst
+    ∷ tx 7 only-4x4 FlipAdst Adst
+    ∷ tx 8 only-4x4 Adst FlipAdst
     ∷ tx 9 every Identity Identity
     ∷ tx 10 small Identity Dct
     ∷ tx 11 small Dct Identity
+    ∷ tx 12 only-4x4 Identity Adst
+    ∷ tx 13 only-4x4 Adst Identity
+    ∷ tx 14 only-4x4 Identity FlipAdst
+    ∷ tx 15 only-4x4 FlipAdst Identity
     ∷ tx 16 only-4x4 Wht Wht
     ∷ []
 
