@@ -7,10 +7,10 @@ use lib.IntN.{ℤ, pos, negℤ}
 use lib.ListN.{getD, set}
 use Rattle.whole.specs.Lists.{tab}
 
--- ---- 7.13.2.1: the cosines
+-- ---- 7.13.2.1, butterfly functions: the cosines
 
 -- Cos128_Lookup at 0, 2, .., 64: round(4096 cos(πi/128)). All angles up to 32 points are even.
-abbrev cosines : List ℕ
+abbrev pub cosines : List ℕ
 cosines = 4096 ∷ 4091 ∷ 4076 ∷ 4052 ∷ 4017 ∷ 3973 ∷ 3920 ∷ 3857 ∷ 3784 ∷ 3703 ∷ 3612 ∷ 3513 ∷ 3406 ∷ 3290 ∷ 3166 ∷ 3035 ∷ 2896 ∷ 2751 ∷ 2598 ∷ 2440 ∷ 2276 ∷ 2106 ∷ 1931 ∷ 1751 ∷ 1567 ∷ 1380 ∷ 1189 ∷ 995 ∷ 799 ∷ 601 ∷ 401 ∷ 201 ∷ 0 ∷ []
 
 abbrev pub cos128 : ℕ → ℤ
@@ -23,7 +23,7 @@ cos128 angle =
 abbrev pub sin128 : ℕ → ℤ
 sin128 angle = cos128 (angle + 192)
 
--- ---- 7.13.2.2: steps, and running them
+-- ---- 7.13.2.1, butterfly functions: steps, and running them
 
 pub data Step : Type 0 where
   B : ℕ → ℕ → ℤ → ℤ → Bool → Step  -- turn elements a and b by the angle of this cosine and sine; flip: then exchange them
@@ -58,10 +58,10 @@ brev zero x = 0
 brev (suc n) x = x % 2 * 2 ^ n + brev n (x / 2)
 
 -- B(a, b, angle, flip), and H(a, b, flip), of which H(a, b, 1) is H(b, a, 0)
-abbrev turn : ℕ → ℕ → ℕ → Bool → Step
+abbrev pub turn : ℕ → ℕ → ℕ → Bool → Step
 turn a b angle flip = B a b (cos128 angle) (sin128 angle) flip
 
-abbrev mix : ℕ → ℕ → Bool → Step
+abbrev pub mix : ℕ → ℕ → Bool → Step
 mix a b flip = cond flip (H b a) (H a b)
 
 abbrev odd : ℕ → Bool
@@ -69,7 +69,7 @@ odd zero = false
 odd (suc zero) = true
 odd (suc (suc n)) = odd n
 
-abbrev join : List (List Step) → List Step
+abbrev pub join : List (List Step) → List Step
 join [] = []
 join (xs ∷ xss) = xs ++ join xss
 
@@ -80,11 +80,10 @@ line n least k f = cond (leb least n) (tab k f) []
 abbrev line2 : ℕ → ℕ → ℕ → ℕ → (ℕ → ℕ → Step) → List Step
 line2 n least k m f = cond (leb least n) (join (tab k (λ i. tab m (f i)))) []
 
--- the steps for 2 ^ n points
-abbrev pub steps : ℕ → List Step
-steps n =
-    join
-    (line n 5 8 (λ i. turn (16 + i) (31 - i) (6 + brev 3 (7 - i) * 8) false)
+-- the lines for 2 ^ n points
+abbrev pub table : ℕ → List (List Step)
+table n =
+    line n 5 8 (λ i. turn (16 + i) (31 - i) (6 + brev 3 (7 - i) * 8) false)
     ∷ line n 4 4 (λ i. turn (8 + i) (15 - i) (12 + brev 2 (3 - i) * 16) false)
     ∷ line n 5 8 (λ i. mix (16 + 2 * i) (17 + 2 * i) (odd i))
     ∷ line n 3 2 (λ i. turn (4 + i) (7 - i) (56 - 32 * i) false)
@@ -104,9 +103,13 @@ steps n =
     ∷ line n 4 8 (λ i. mix i (15 - i) false)
     ∷ line n 5 4 (λ i. turn (27 - i) (20 + i) 32 true)
     ∷ line n 5 16 (λ i. mix i (31 - i) false)
-    ∷ [])
+    ∷ []
 
--- first T[i] = input[brev(n, i)], then the steps
+-- their steps
+abbrev pub steps : ℕ → List Step
+steps n = join (table n)
+
+-- 7.13.2.2: first T[i] = input[brev(n, i)], then the steps
 module _ {A : Type 0} (𝓐 : Alg A) where
   abbrev pub permuted : ℕ → List A → List A
   permuted n xs = tab (2 ^ n) (λ i. getD xs (brev n i) (𝓐 .none))

@@ -6,7 +6,7 @@ use Rattle.whole.specs.Numbers.{round2, clip, outside}
 use Rattle.whole.specs.Lists.{at}
 use Rattle.av1.specs.Network.{Alg, Step, B, H, step}
 
--- B(a, b, angle, 0), 7.13.2.2
+-- B(a, b, angle, 0), 7.13.2.1
 abbrev pub turnX : ℤ → ℤ → ℤ → ℤ → ℤ
 turnX c s x y = round2 (x *ℤ c -ℤ y *ℤ s) 12
 

@@ -94,7 +94,7 @@ fn gather(t: &mut [i32; 32], c: &[i32], stride: usize, n: usize)
     }
 }
 
-fn scatter(c: &mut [i32], stride: usize, n: usize, t: &[i32; 32])
+pub fn scatter(c: &mut [i32], stride: usize, n: usize, t: &[i32; 32])
     requires { ⌜ Inner.Reaches (now c) stride n ⌝ }
     ensures { λ _. ⌜ now (c .exit) ≡ Calls.put (now (c .entry)) stride (now (t .entry)) n ⌝ }
 {

@@ -1,0 +1,6 @@
+-- Laws of the second engine.
+pub mod Grows
+pub mod Cosines
+pub mod Fronts
+pub mod Tables
+pub mod Fully

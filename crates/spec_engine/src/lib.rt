@@ -1,0 +1,480 @@
+// Section 7.13.2 of the AV1 specification, the one-dimensional inverse transforms, in the specification's own steps (request E8): a lesson for those who have that text and nothing else.
+//
+// Read it from top to bottom beside the specification. Each function names the section it writes down, and stands where that section stands:
+//   7.13.2.1       cos128, sin128, brev, B and H
+//   7.13.2.2       the permutation that an inverse DCT begins with
+//   7.13.2.3       the inverse DCT, line by line
+//   7.13.2.10      the inverse Walsh-Hadamard transform
+//   7.13.2.11-15   the inverse identity transforms
+// What section 7.13.3 does with them, rows first and columns after, is in crates/residual (`resolve`): both engines share it.
+//
+// T is the specification's array T: 32 numbers, of which a transform of 2^n points uses the first 2^n. Where the specification asks that a value of T fits a number of
+// bits, nothing is clipped here: the value stays what it is. 32 bits hold every number of T, whatever the coefficients, and 64 bits every product; that is proved
+// (specs/Growth.antt), as is each function's promise, the `ensures` above its body. Lines with 64 points, and the ADSTs, are left out.
+ghost use mathlib.Core.Path.{_≡_};
+ghost use Prim.Native.Nat.{ℕ, _+_, _*_, _^_, _≤_, _<_};
+ghost use lib.IntN.{ℤ, pos, natAbs};
+ghost use lib.ListN.{length, replicate};
+ghost use Rattle.whole.specs.Numbers as Numbers;
+ghost use Rattle.whole.specs.Lists.{at};
+ghost use Rattle.av1.specs.Sides.{len, bits, side};
+ghost use Rattle.av1.specs.Network as Network;
+ghost use Rattle.av1.specs.Values.{exact};
+ghost use Rattle.av1.specs.Passes as Av1;
+ghost use Rattle.itx_1d.specs.Calls.{taken, put};
+ghost use Rattle.itx_1d.specs.Inner.{Reaches};
+ghost use Rattle.itx_1d.specs.Passes.{av1-pass};
+ghost use Rattle.spec_engine.specs.Growth.{Rotatable, Addable};
+ghost use Rattle.spec_engine.specs.Lines as Lines;
+ghost use Rattle.spec_engine.specs.Arrays as Arrays;
+use itx_1d::Kind;
+use itx_1d::scatter;
+
+// ---- 7.13.2.1: butterfly functions
+
+// Cos128_Lookup, every second entry: entry i is 4096 times the cosine of i/64 of half a turn, rounded. Up to 32 points every angle is even.
+const COS128: [i32; 33] = [
+    4096,
+    4091,
+    4076,
+    4052,
+    4017,
+    3973,
+    3920,
+    3857,
+    3784,
+    3703,
+    3612,
+    3513,
+    3406,
+    3290,
+    3166,
+    3035,
+    2896,
+    2751,
+    2598,
+    2440,
+    2276,
+    2106,
+    1931,
+    1751,
+    1567,
+    1380,
+    1189,
+    995,
+    799,
+    601,
+    401,
+    201,
+    0,
+];
+
+// cos128( angle ): the table at the angle, and its mirror image with the sign changed above 64. No line below has an angle above 128.
+fn cos128(angle: usize) -> i32
+    requires { ⌜ angle ≤ 128 ⌝ }
+    ensures { λ r. ⌜ r ≡ Network.cos128 angle ⌝ }
+{
+    if angle <= 64 {
+        COS128[angle / 2]
+    } else {
+        -COS128[(128 - angle) / 2]
+    }
+}
+
+// sin128( angle ) = cos128( angle - 64 ), and a cosine of a negative angle is that of the positive one.
+fn sin128(angle: usize) -> i32
+    requires { ⌜ angle ≤ 128 ⌝ }
+    ensures { λ r. ⌜ r ≡ Network.sin128 angle ⌝ }
+{
+    if angle <= 64 {
+        COS128[(64 - angle) / 2]
+    } else {
+        COS128[(angle - 64) / 2]
+    }
+}
+
+// brev( numBits, x ): the low n = numBits bits of x in reverse order.
+fn brev(n: usize, x: usize) -> usize
+    requires { ⌜ n ≤ 5 ⌝ }
+    ensures { λ r. ⌜ r ≡ Network.brev n x ⌝ }
+{
+    let mut left = x;
+    let mut reversed = 0;
+    for _ in 0..n {
+        reversed = reversed * 2 + left % 2;
+        left = left / 2;
+    }
+    reversed
+}
+
+// Round2( x, 12 ): x by 4096, to the nearest whole number.
+fn round2_12(x: i64) -> i32
+    requires { ⌜ natAbs x ≤ 274877906944 ⌝ }
+    ensures { λ r. ⌜ r ≡ Numbers.round2 x 12 ⌝ }
+{
+    (x + 2048 >> 12) as i32
+}
+
+// B( a, b, angle, flip ), the butterfly rotation: T[ a ] and T[ b ] are turned by the angle, and change places if flip is 1.
+fn rotate(t: &mut [i32; 32], a: usize, b: usize, angle: usize, flip: bool)
+    requires { ⌜ Rotatable (now t) a b angle ⌝ }
+    ensures { λ _. ⌜ now (t .exit) ≡ Network.step exact (Network.turn a b angle flip) (now (t .entry)) ⌝ }
+{
+    let cos = cos128(angle);
+    let sin = sin128(angle);
+    let ta = t[a];
+    let tb = t[b];
+    let x = round2_12(ta as i64 * cos as i64 - tb as i64 * sin as i64);
+    let y = round2_12(ta as i64 * sin as i64 + tb as i64 * cos as i64);
+    if flip {
+        t[a] = y;
+        t[b] = x;
+    } else {
+        t[a] = x;
+        t[b] = y;
+    }
+}
+
+// H( a, b, 0 ), the Hadamard rotation: the sum to T[ a ], the difference to T[ b ].
+fn add(t: &mut [i32; 32], a: usize, b: usize)
+    requires { ⌜ Addable (now t) a b ⌝ }
+    ensures { λ _. ⌜ now (t .exit) ≡ Network.step exact (Network.H a b) (now (t .entry)) ⌝ }
+{
+    let x = t[a];
+    let y = t[b];
+    let u = x + y;
+    let v = x - y;
+    t[a] = u;
+    t[b] = v;
+}
+
+// H( a, b, flip ): H( a, b, 1 ) is H( b, a, 0 ).
+fn hadamard(t: &mut [i32; 32], a: usize, b: usize, flip: bool)
+    requires { ⌜ Addable (now t) a b ⌝ }
+    ensures { λ _. ⌜ now (t .exit) ≡ Network.step exact (Network.mix a b flip) (now (t .entry)) ⌝ }
+{
+    if flip {
+        add(t, b, a);
+    } else {
+        add(t, a, b);
+    }
+}
+
+// ---- 7.13.2.2: inverse DCT array permutation process
+
+// T[ i ] = copyT[ brev( n, i ) ] for i = 0..2^n-1, where copyT is T as it was.
+fn permute(t: &mut [i32; 32], n: usize)
+    requires { ⌜ (n ≤ 5) × (length (now t) ≡ 32) ⌝ }
+    ensures { λ _. ⌜ now (t .exit) ≡ Arrays.begun (2 ^ n) (λ i. at (now (t .entry)) (Network.brev n i)) (now (t .entry)) ⌝ }
+{
+    let copy_t = *t;
+    for i in 0..1 << n {
+        let j = brev(n, i);
+        let v = copy_t[j];
+        t[i] = v;
+    }
+}
+
+// ---- 7.13.2.3: inverse DCT process
+
+// A line of the process, where it is due: B( a, b, angle, flip ) for each row a, b, angle, flip.
+fn rotations(t: &mut [i32; 32], due: bool, rows: &[[usize; 4]])
+    requires { ⌜ Lines.Rotating due (now rows) (now t) ⌝ }
+    ensures { λ _. ⌜ now (t .exit) ≡ Network.run exact (Lines.when due (Lines.rotations (now (rows .entry)))) (now (t .entry)) ⌝ }
+{
+    if !due {
+        return;
+    }
+    for i in 0..rows.len() {
+        let a = rows[i][0];
+        let b = rows[i][1];
+        let angle = rows[i][2];
+        let flip = rows[i][3];
+        rotate(&mut *t, a, b, angle, flip == 1);
+    }
+}
+
+// The same: H( a, b, flip ) for each row a, b, flip.
+fn butterflies(t: &mut [i32; 32], due: bool, rows: &[[usize; 3]])
+    requires { ⌜ Lines.Able (Lines.when due (Lines.butterflies (now rows))) (now t) ⌝ }
+    ensures { λ _. ⌜ now (t .exit) ≡ Network.run exact (Lines.when due (Lines.butterflies (now (rows .entry)))) (now (t .entry)) ⌝ }
+{
+    if !due {
+        return;
+    }
+    for i in 0..rows.len() {
+        let a = rows[i][0];
+        let b = rows[i][1];
+        let flip = rows[i][2];
+        hadamard(&mut *t, a, b, flip == 1);
+    }
+}
+
+// B( 16 + i, 31 - i, 6 + ( brev( 3, 7 - i ) << 3 ), 0 ) for i = 0..7
+const LINE1: [[usize; 4]; 8] = [
+    [16, 31, 62, 0],
+    [17, 30, 30, 0],
+    [18, 29, 46, 0],
+    [19, 28, 14, 0],
+    [20, 27, 54, 0],
+    [21, 26, 22, 0],
+    [22, 25, 38, 0],
+    [23, 24, 6, 0],
+];
+
+// B( 8 + i, 15 - i, 12 + ( brev( 2, 3 - i ) << 4 ), 0 ) for i = 0..3
+const LINE2: [[usize; 4]; 4] = [
+    [8, 15, 60, 0],
+    [9, 14, 28, 0],
+    [10, 13, 44, 0],
+    [11, 12, 12, 0],
+];
+
+// H( 16 + i * 2, 17 + i * 2, i & 1 ) for i = 0..7
+const LINE3: [[usize; 3]; 8] = [
+    [16, 17, 0],
+    [18, 19, 1],
+    [20, 21, 0],
+    [22, 23, 1],
+    [24, 25, 0],
+    [26, 27, 1],
+    [28, 29, 0],
+    [30, 31, 1],
+];
+
+// B( 4 + i, 7 - i, 56 - 32 * i, 0 ) for i = 0..1
+const LINE4: [[usize; 4]; 2] = [[4, 7, 56, 0], [5, 6, 24, 0]];
+
+// H( 8 + i * 2, 9 + i * 2, i & 1 ) for i = 0..3
+const LINE5: [[usize; 3]; 4] = [[8, 9, 0], [10, 11, 1], [12, 13, 0], [14, 15, 1]];
+
+// B( 30 - 4 * i - j, 17 + 4 * i + j, 24 + ( j << 6 ) + ( ( 1 - i ) << 5 ), 1 ) for i = 0..1, j = 0..1
+const LINE6: [[usize; 4]; 4] = [
+    [30, 17, 56, 1],
+    [29, 18, 120, 1],
+    [26, 21, 24, 1],
+    [25, 22, 88, 1],
+];
+
+// B( 2 * i, 2 * i + 1, 32 + 16 * i, 1 - i ) for i = 0..1
+const LINE7: [[usize; 4]; 2] = [[0, 1, 32, 1], [2, 3, 48, 0]];
+
+// H( 4 + 2 * i, 5 + 2 * i, i ) for i = 0..1
+const LINE8: [[usize; 3]; 2] = [[4, 5, 0], [6, 7, 1]];
+
+// B( 14 - i, 9 + i, 48 + 64 * i, 1 ) for i = 0..1
+const LINE9: [[usize; 4]; 2] = [[14, 9, 48, 1], [13, 10, 112, 1]];
+
+// H( 16 + 4 * i + j, 19 + 4 * i - j, i & 1 ) for i = 0..3, j = 0..1
+const LINE10: [[usize; 3]; 8] = [
+    [16, 19, 0],
+    [17, 18, 0],
+    [20, 23, 1],
+    [21, 22, 1],
+    [24, 27, 0],
+    [25, 26, 0],
+    [28, 31, 1],
+    [29, 30, 1],
+];
+
+// H( i, 3 - i, 0 ) for i = 0..1
+const LINE11: [[usize; 3]; 2] = [[0, 3, 0], [1, 2, 0]];
+
+// B( 6, 5, 32, 1 )
+const LINE12: [[usize; 4]; 1] = [[6, 5, 32, 1]];
+
+// H( 8 + 4 * i + j, 11 + 4 * i - j, i ) for i = 0..1, j = 0..1
+const LINE13: [[usize; 3]; 4] = [[8, 11, 0], [9, 10, 0], [12, 15, 1], [13, 14, 1]];
+
+// B( 29 - i, 18 + i, 48 + ( i >> 1 ) * 64, 1 ) for i = 0..3
+const LINE14: [[usize; 4]; 4] = [
+    [29, 18, 48, 1],
+    [28, 19, 48, 1],
+    [27, 20, 112, 1],
+    [26, 21, 112, 1],
+];
+
+// H( i, 7 - i, 0 ) for i = 0..3
+const LINE15: [[usize; 3]; 4] = [[0, 7, 0], [1, 6, 0], [2, 5, 0], [3, 4, 0]];
+
+// B( 13 - i, 10 + i, 32, 1 ) for i = 0..1
+const LINE16: [[usize; 4]; 2] = [[13, 10, 32, 1], [12, 11, 32, 1]];
+
+// H( 16 + i * 8 + j, 23 + i * 8 - j, i ) for i = 0..1, j = 0..3
+const LINE17: [[usize; 3]; 8] = [
+    [16, 23, 0],
+    [17, 22, 0],
+    [18, 21, 0],
+    [19, 20, 0],
+    [24, 31, 1],
+    [25, 30, 1],
+    [26, 29, 1],
+    [27, 28, 1],
+];
+
+// H( i, 15 - i, 0 ) for i = 0..7
+const LINE18: [[usize; 3]; 8] = [
+    [0, 15, 0],
+    [1, 14, 0],
+    [2, 13, 0],
+    [3, 12, 0],
+    [4, 11, 0],
+    [5, 10, 0],
+    [6, 9, 0],
+    [7, 8, 0],
+];
+
+// B( 27 - i, 20 + i, 32, 1 ) for i = 0..3
+const LINE19: [[usize; 4]; 4] = [
+    [27, 20, 32, 1],
+    [26, 21, 32, 1],
+    [25, 22, 32, 1],
+    [24, 23, 32, 1],
+];
+
+// H( i, 31 - i, 0 ) for i = 0..15
+const LINE20: [[usize; 3]; 16] = [
+    [0, 31, 0],
+    [1, 30, 0],
+    [2, 29, 0],
+    [3, 28, 0],
+    [4, 27, 0],
+    [5, 26, 0],
+    [6, 25, 0],
+    [7, 24, 0],
+    [8, 23, 0],
+    [9, 22, 0],
+    [10, 21, 0],
+    [11, 20, 0],
+    [12, 19, 0],
+    [13, 18, 0],
+    [14, 17, 0],
+    [15, 16, 0],
+];
+
+// The lines in order, each with the least n that it is for.
+fn lines(t: &mut [i32; 32], n: usize)
+    requires { ⌜ Lines.Ahead (Network.table n) (now t) ⌝ }
+    ensures { λ _. ⌜ now (t .exit) ≡ Lines.run-lines (Network.table n) (now (t .entry)) ⌝ }
+{
+    rotations(&mut *t, 5 <= n, &LINE1);
+    rotations(&mut *t, 4 <= n, &LINE2);
+    butterflies(&mut *t, 5 <= n, &LINE3);
+    rotations(&mut *t, 3 <= n, &LINE4);
+    butterflies(&mut *t, 4 <= n, &LINE5);
+    rotations(&mut *t, 5 <= n, &LINE6);
+    rotations(&mut *t, 2 <= n, &LINE7);
+    butterflies(&mut *t, 3 <= n, &LINE8);
+    rotations(&mut *t, 4 <= n, &LINE9);
+    butterflies(&mut *t, 5 <= n, &LINE10);
+    butterflies(&mut *t, 2 <= n, &LINE11);
+    rotations(&mut *t, 3 <= n, &LINE12);
+    butterflies(&mut *t, 4 <= n, &LINE13);
+    rotations(&mut *t, 5 <= n, &LINE14);
+    butterflies(&mut *t, 3 <= n, &LINE15);
+    rotations(&mut *t, 4 <= n, &LINE16);
+    butterflies(&mut *t, 5 <= n, &LINE17);
+    butterflies(&mut *t, 4 <= n, &LINE18);
+    rotations(&mut *t, 5 <= n, &LINE19);
+    butterflies(&mut *t, 5 <= n, &LINE20);
+}
+
+// The inverse DCT of 2^n points: the permutation, then the lines.
+fn dct(t: &mut [i32; 32], n: usize)
+    requires { ⌜ Arrays.Points n × Arrays.Held 524288 (now t) ⌝ }
+    ensures { λ _. ⌜ Arrays.Begins (2 ^ n) (Network.dct exact n (now (t .entry))) (now (t .exit)) ⌝ }
+{
+    permute(&mut *t, n);
+    lines(&mut *t, n);
+}
+
+// ---- 7.13.2.10: inverse Walsh-Hadamard transform process
+
+// With shift 0. The shift of 2 on rows is done as the coefficients are taken in (`enter` in crates/residual).
+fn wht(t: &mut [i32; 32])
+    requires { ⌜ Arrays.Held 16777216 (now t) ⌝ }
+    ensures { λ _. ⌜ Arrays.Begins 4 (Av1.av1-wht (now (t .entry))) (now (t .exit)) ⌝ }
+{
+    let a = t[0];
+    let c = t[1];
+    let d = t[2];
+    let b = t[3];
+    let a = a + c;
+    let d = d - b;
+    let e = a - d >> 1;
+    let b = e - b;
+    let c = e - c;
+    let a = a - b;
+    let d = d + c;
+    t[0] = a;
+    t[1] = b;
+    t[2] = c;
+    t[3] = d;
+}
+
+// ---- 7.13.2.15: inverse identity transform process
+
+// An element of the identity transform of 2^n points: 7.13.2.11 to 7.13.2.14.
+fn identity_of(n: usize, v: i32) -> i32
+    requires { ⌜ natAbs v ≤ 524288 ⌝ }
+    ensures { λ r. ⌜ r ≡ Av1.av1-identity (Arrays.points n) v ⌝ }
+{
+    match n {
+        2 => round2_12(v as i64 * 5793),
+        3 => v * 2,
+        4 => round2_12(v as i64 * 11586),
+        _ => v * 4,
+    }
+}
+
+fn identity(t: &mut [i32; 32], n: usize)
+    requires { ⌜ Arrays.Points n × Arrays.Held 524288 (now t) ⌝ }
+    ensures { λ _. ⌜ now (t .exit) ≡ Arrays.begun (2 ^ n) (λ i. Av1.av1-identity (Arrays.points n) (at (now (t .entry)) i)) (now (t .entry)) ⌝ }
+{
+    for i in 0..1 << n {
+        let v = t[i];
+        let u = identity_of(n, v);
+        t[i] = u;
+    }
+}
+
+// ---- a pass
+
+// T[ i ] = element i of the line, for the elements 0, s, 2s, .. of a slice.
+fn load(t: &mut [i32; 32], c: &[i32], stride: usize, length: usize)
+    requires { ⌜ Reaches (now c) stride length × (now t ≡ replicate 32 (pos 0)) ⌝ }
+    ensures { λ _. ⌜ now (t .exit) ≡ Arrays.begun length (λ i. at (now (c .entry)) (i * stride)) (now (t .entry)) ⌝ }
+{
+    for i in 0..length {
+        let v = c[i * stride];
+        t[i] = v;
+    }
+}
+
+// The n of a length 2^n.
+fn log2(length: usize) -> usize
+    ensures { λ r. ⌜ r ≡ bits (side length) ⌝ }
+{
+    match length {
+        4 => 2,
+        8 => 3,
+        16 => 4,
+        _ => 5,
+    }
+}
+
+// The transform of a line of 2^n elements, which are at most 524288 in size, for a WHT 16777216.
+pub fn inverse(kind: Kind, c: &mut [i32], length: usize, stride: usize)
+    requires { ⌜ Arrays.Transforms kind (now c) length stride ⌝ }
+    ensures { λ _. ⌜ now (c .exit) ≡ put (now (c .entry)) stride (av1-pass kind (side length) (taken (now (c .entry)) stride length)) length ⌝ }
+{
+    let n = log2(length);
+    let mut t = [0i32; 32];
+    load(&mut t, &*c, stride, length);
+    match kind {
+        Kind::Dct => dct(&mut t, n),
+        Kind::Identity => identity(&mut t, n),
+        Kind::Wht => wht(&mut t),
+    }
+    scatter(c, stride, length, &t);
+}
