@@ -156,7 +156,7 @@ module _ (n : Side) (m : ℕ) (xs : List ℤ) where
 
 -- ---- how large, and how many
 
-len-power : (n : Side) → 2 ^ bits n ≡ len n
+pub len-power : (n : Side) → 2 ^ bits n ≡ len n
 len-power of4 = refl
 len-power of8 = refl
 len-power of16 = refl
@@ -168,7 +168,7 @@ module _ {A : Type 0} (𝓐 : Alg A) where
   step-length (B a b c s true) xs = simp length-set
   step-length (H a b) xs = simp length-set
 
-  run-length : (ss : List Step) (xs : List A) → length (run 𝓐 ss xs) ≡ length xs
+  pub run-length : (ss : List Step) (xs : List A) → length (run 𝓐 ss xs) ≡ length xs
   run-length [] xs = refl
   run-length (s ∷ ss) xs = run-length ss (step 𝓐 s xs) ∙ step-length s xs
 

@@ -49,10 +49,12 @@ module _ (f : ℕ → ℤ) (t : List ℤ) where
 
 -- what holds of the new numbers and of the old ones holds of all
 pub begun-all : (P : ℤ → Type 0) (k : ℕ) (f : ℕ → ℤ) (t : List ℤ) → ((i : ℕ) → P (f i)) → ((i : ℕ) → P (at t i)) → (i : ℕ) → P (at (begun k f t) i)
-begun-all P zero f t p q i = q i
-begun-all P (suc k) f t p q zero = p 0
-begun-all P (suc k) f [] p q (suc i) = begun-all P k (λ j. f (suc j)) [] (λ j. p (suc j)) q i
-begun-all P (suc k) f (x ∷ t) p q (suc i) = begun-all P k (λ j. f (suc j)) t (λ j. p (suc j)) (λ j. q (suc j)) i
+begun-all P k f t p q i = front k f (drop k t) p (λ j. subst P (sym (getD-drop k t j (pos 0))) (q (k + j))) i
+  where
+    front : (k : ℕ) (f : ℕ → ℤ) (ys : List ℤ) → ((i : ℕ) → P (f i)) → ((i : ℕ) → P (at ys i)) → (i : ℕ) → P (at (tab k f ++ ys) i)
+    front zero f ys p q i = q i
+    front (suc k) f ys p q zero = p 0
+    front (suc k) f ys p q (suc i) = front k (λ j. f (suc j)) ys (λ j. p (suc j)) q i
 
 -- what is small, as a relation
 pub both-of : (k : ℕ) (t : List ℤ) → ((i : ℕ) → natAbs (at t i) ≤ k) → Both Small t (replicate (length t) k)

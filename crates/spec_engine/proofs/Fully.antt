@@ -1,9 +1,9 @@
 -- A whole transform on the array T is the specification's on the line that T holds.
-use mathlib.Core.Path.{_≡_, refl, sym, ap, _∙_, subst}
+use mathlib.Core.Path.{_≡_, refl, sym, ap, _∙_, subst, subst⁻¹}
 use mathlib.Core.List.{List, [], _∷_, _++_, map}
 use Prim.Native.Nat.{ℕ, zero, suc, _+_, _*_, _^_, _≤_, _<_}
 use native.Mathlib.Omega.{arith}
-use lib.Dec.{lit≤}
+use lib.Dec.{T, lit≤}
 use lib.IntN.{ℤ, pos, natAbs}
 use lib.ListN.{getD, length, drop, replicate, set, List·getD-append}
 use lib.Seq.{getD-drop}
@@ -11,16 +11,18 @@ use Rattle.whole.specs.Numbers.{_>>_, round2}
 use Rattle.whole.specs.Lists.{at, tab}
 use Rattle.whole.specs.Both.{Both}
 use Rattle.whole.proofs.Counts.{tab-ext, tab-length, map-at}
-use Rattle.av1.specs.Sides.{Side, of4, of8, of16, of32, bits, len}
-use Rattle.av1.specs.Network.{table, steps, join, run, brev, dct, permuted}
+use Rattle.av1.specs.Sides.{Side, of4, of8, of16, of32, bits, len, side}
+use Rattle.av1.specs.Network.{Alg, table, steps, join, run, brev, dct, permuted}
 use Rattle.av1.specs.Values.{exact}
 use Rattle.av1.specs.Passes.{av1-identity, av1-wht}
 use Rattle.itx_1d.specs.declared.Kind.{Kind}
-use Rattle.itx_1d.specs.declared.Kind.the-variants.{Dct, Identity, Wht}
-use Rattle.itx_1d.specs.Passes.{av1-pass}
-use Rattle.itx_1d.specs.Calls.{put}
-use Rattle.itx_1d.proofs.PassLaws.{run-length}
-use Rattle.spec_engine.specs.Arrays.{points, Points, begun, Held, Begins}
+use Rattle.itx_1d.specs.declared.Kind.the-variants.{Dct, Identity, Wht, Adst, FlipAdst}
+use Rattle.itx_1d.specs.Calls.{taken, put}
+use Rattle.itx_1d.specs.Inner.{most, Lined}
+use Rattle.itx_1d.specs.Passes.{wht, pass, av1-pass}
+use Rattle.itx_1d.proofs.PassLaws.{run-length, len-power, wht-av1}
+use Rattle.itx_1d.proofs.Strides.{at-most-32}
+use Rattle.spec_engine.specs.Arrays.{points, Points, begun, Held, Begins, specified, Ready, Transforms}
 use Rattle.spec_engine.specs.Lines.{Small, Ahead, run-lines}
 use Rattle.spec_engine.proofs.Fronts.{both-of, begun-all, begun-long, begun-at, power, points-small, brev-below}
 use Rattle.spec_engine.proofs.Grows.{begin, in-steps}
@@ -42,11 +44,128 @@ module _ (n : ℕ) (t : List ℤ) (is : Points n) (held : Held 524288 t) where
       (begin (points n) (subst (λ (k : ℕ). Both Small (begun (2 ^ n) turned t) (replicate k 524288)) long (both-of 524288 (begun (2 ^ n) turned t) turned-small)))
 
 -- what the lines leave after the first 2 ^ n numbers they do not touch
-beyond : (k : Side) (f : ℕ → ℤ) (rest : List ℤ) → run exact (steps (bits k)) (tab (2 ^ bits k) f ++ rest) ≡ run exact (steps (bits k)) (tab (2 ^ bits k) f) ++ rest
-beyond of4 f rest = refl
-beyond of8 f rest = refl
-beyond of16 f rest = refl
-beyond of32 f rest = refl
+beyond : {A : Type 0} (𝓐 : Alg A) (k : Side) (f : ℕ → A) (rest : List A) → run 𝓐 (steps (bits k)) (tab (2 ^ bits k) f ++ rest) ≡ run 𝓐 (steps (bits k)) (tab (2 ^ bits k) f) ++ rest
+beyond 𝓐 of4 f rest = refl
+beyond 𝓐 of8 f rest = refl
+beyond 𝓐 of16 f rest = refl
+beyond 𝓐 of32 f rest = refl
+
+module _ (k : Side) (t : List ℤ) where
+  abbrev from : ℕ → ℤ
+  from i = at t (brev (bits k) i)
+
+  begins-of : Begins (2 ^ bits k) (dct exact (bits k) t) (run-lines (table (bits k)) (begun (2 ^ bits k) from t))
+  begins-of =
+      let n = 2 ^ bits k in
+      let front = run exact (steps (bits k)) (tab n from) in
+      record {
+        same = λ i l.
+            ap (λ (u : List ℤ). at u i) (in-steps (table (bits k)) (begun n from t) ∙ beyond exact k from (drop n t))
+            ∙ List·getD-append front (drop n t) (pos 0) i (omega (arith, l, run-length exact (steps (bits k)) (tab n from), tab-length n from));
+      }
 
 pub begins : (n : ℕ) (t : List ℤ) → Points n → Begins (2 ^ n) (dct exact n t) (run-lines (table n) (begun (2 ^ n) (λ i. at t (brev n i)) t))
-begins n t is = record { same = λ i l. ? }
+begins n t is = subst (λ (j : ℕ). Begins (2 ^ j) (dct exact j t) (run-lines (table j) (begun (2 ^ j) (λ i. at t (brev j i)) t))) is (begins-of (points n) t)
+
+-- ---- T is loaded with a line, and has zeros after it
+
+padded : (xs rest : List ℤ) → ((j : ℕ) → at rest j ≡ pos 0) → (i : ℕ) → at (xs ++ rest) i ≡ at xs i
+padded [] rest z i = z i
+padded (x ∷ xs) rest z zero = refl
+padded (x ∷ xs) rest z (suc i) = padded xs rest z i
+
+zeros : (n i : ℕ) → at (replicate n (pos 0)) i ≡ pos 0
+zeros zero i = refl
+zeros (suc n) zero = refl
+zeros (suc n) (suc i) = zeros n i
+
+module _ (n : ℕ) (f : ℕ → ℤ) where
+  abbrev loaded : List ℤ
+  loaded = begun n f (replicate 32 (pos 0))
+
+  -- it is read as the line alone
+  loaded-at : (i : ℕ) → at loaded i ≡ at (tab n f) i
+  loaded-at i = padded (tab n f) (drop n (replicate 32 (pos 0))) (λ j. getD-drop n (replicate 32 (pos 0)) j (pos 0) ∙ zeros 32 (n + j)) i
+
+  pub loaded-held : (m : ℕ) → n ≤ 32 → ((i : ℕ) → i < n → natAbs (f i) ≤ m) → Held m loaded
+  loaded-held m few small = record {
+    long = begun-long f (replicate 32 (pos 0)) n few;
+    small = λ i. subst (λ (z : ℤ). natAbs z ≤ m) (sym (loaded-at i)) (in-line n f small i);
+  }
+    where
+      in-line : (n : ℕ) (f : ℕ → ℤ) → ((i : ℕ) → i < n → natAbs (f i) ≤ m) → (i : ℕ) → natAbs (at (tab n f) i) ≤ m
+      in-line zero f h i = omega arith
+      in-line (suc n) f h zero = h 0 (omega arith)
+      in-line (suc n) f h (suc i) = in-line n (λ j. f (suc j)) (λ j l. h (suc j) (omega arith)) i
+
+-- ---- each transform, as a pass on the line
+
+identity-zero : (k : Side) → av1-identity k (pos 0) ≡ pos 0
+unfolding Rattle.av1.specs.Passes.av1-identity Rattle.whole.specs.Numbers.round2 Rattle.whole.specs.Numbers._>>_
+identity-zero of4 = refl
+identity-zero of8 = refl
+identity-zero of16 = refl
+identity-zero of32 = refl
+
+identity-at : (k : Side) (xs : List ℤ) (i : ℕ) → at (map (av1-identity k) xs) i ≡ av1-identity k (at xs i)
+identity-at k xs i = ap (getD (map (av1-identity k) xs) i) (sym (identity-zero k)) ∙ map-at (av1-identity k) xs i (pos 0)
+
+pub dct-passes : (n : ℕ) (t : List ℤ) {u : List ℤ} → Points n → Begins (2 ^ n) (dct exact n t) u → Begins (2 ^ n) (av1-pass Dct (points n) t) u
+dct-passes n t {u} is b = subst (λ (j : ℕ). Begins (2 ^ n) (dct exact j t) u) (sym is) b
+
+pub wht-passes : (n : ℕ) (k : Side) (t : List ℤ) {u : List ℤ} → 2 ^ n ≡ 4 → Begins 4 (av1-wht t) u → Begins (2 ^ n) (av1-pass Wht k t) u
+wht-passes n k t {u} e b = subst⁻¹ (λ (j : ℕ). Begins j (av1-wht t) u) e b
+
+pub identity-passes : (m : ℕ) (k : Side) (t : List ℤ) {u : List ℤ} → u ≡ begun m (λ i. av1-identity k (at t i)) t → Begins m (av1-pass Identity k t) u
+identity-passes m k t e = record { same = λ i l. ap (λ (v : List ℤ). at v i) e ∙ begun-at (λ j. av1-identity k (at t j)) t m i l ∙ sym (identity-at k t i) }
+
+-- a pass on T is that on the line
+module _ (k : Side) (f : ℕ → ℤ) where
+  abbrev line : List ℤ
+  line = tab (len k) f
+
+  abbrev T₁ : List ℤ
+  T₁ = loaded (len k) f
+
+  pub on-line : (kind : Kind) → T (specified kind) → (i : ℕ) → at (av1-pass kind k T₁) i ≡ at (av1-pass kind k line) i
+  unfolding Rattle.itx_1d.specs.Passes.pass
+  on-line Dct h i = ap (λ (xs : List ℤ). at (run exact (steps (bits k)) xs) i) (tab-ext (2 ^ bits k) _ _ (λ j g. loaded-at (len k) f (brev (bits k) j)))
+  on-line Identity h i = identity-at k T₁ i ∙ ap (av1-identity k) (loaded-at (len k) f i) ∙ sym (identity-at k line i)
+  on-line Wht h i = let z = loaded-at (len k) f in ap (λ (xs : List ℤ). at xs i) (sym (wht-av1 k 0 T₁) ∙ (λ j. wht (z 0 j) (z 1 j) (z 2 j) (z 3 j)) ∙ wht-av1 k 0 line)
+  on-line Adst h i = absurd h
+  on-line FlipAdst h i = absurd h
+
+-- what is put back is the pass's
+pub put-same : (c : List ℤ) (s : ℕ) (vs ws : List ℤ) (n : ℕ) → Begins n ws vs → put c s vs n ≡ put c s ws n
+unfolding put
+put-same c s vs ws zero b = refl
+put-same c s vs ws (suc n) b = λ i. set (put-same c s vs ws n (record { same = λ j l. b .same j (omega arith) }) i) (n * s) (b .same n (omega arith) i)
+
+-- ---- a pass as a whole
+
+pub points-bits : (k : Side) → points (bits k) ≡ k
+points-bits of4 = refl
+points-bits of8 = refl
+points-bits of16 = refl
+points-bits of32 = refl
+
+whole-of : (kind : Kind) (k : Side) (c : List ℤ) (s : ℕ) (t u : List ℤ) → T (specified kind) → t ≡ loaded (len k) (λ i. at c (i * s)) → Begins (2 ^ bits k) (av1-pass kind (points (bits k)) t) u
+    → put c s u (len k) ≡ put c s (av1-pass kind k (taken c s (len k))) (len k)
+whole-of kind k c s t u h e b =
+    put-same c s u _ (len k)
+    (record { same = λ i l. b .same i (subst (λ (n : ℕ). i < n) (sym (len-power k)) l) ∙ (λ j. at (av1-pass kind (points-bits k j) (e j)) i) ∙ on-line k (λ i. at c (i * s)) kind h i })
+
+pub whole : (kind : Kind) (n : ℕ) (c : List ℤ) (s : ℕ) (t u : List ℤ) (b : ℕ) → len (side n) ≡ n → b ≡ bits (side n) → T (specified kind) → t ≡ loaded n (λ i. at c (i * s)) → Begins (2 ^ b) (av1-pass kind (points b) t) u
+    → put c s u n ≡ put c s (av1-pass kind (side n) (taken c s n)) n
+whole kind n c s t u b is f h e g =
+    subst (λ (j : ℕ). put c s u j ≡ put c s (av1-pass kind (side n) (taken c s j)) j) is
+    (whole-of kind (side n) c s t u h (e ∙ ap (λ (j : ℕ). loaded j (λ i. at c (i * s))) (sym is)) (subst (λ (j : ℕ). Begins (2 ^ j) (av1-pass kind (points j) t) u) f g))
+
+-- what the transform asks
+pub ready : (kind : Kind) (n : ℕ) (c : List ℤ) (s b : ℕ) (t : List ℤ) → Transforms kind c n s → b ≡ bits (side n) → t ≡ loaded n (λ i. at c (i * s)) → Ready kind b t
+ready kind n c s b t a f e = record {
+  kind-in = a .kind-in;
+  points-in = subst⁻¹ Points f (ap bits (points-bits (side n)));
+  lined = subst⁻¹ (Lined kind) (ap (λ (j : ℕ). 2 ^ j) f ∙ len-power (side n) ∙ a .able .reaches .is-length) (a .lined);
+  held = subst⁻¹ (Held (most kind)) e (loaded-held n (λ i. at c (i * s)) (most kind) (at-most-32 n (a .able .reaches .is-length)) (a .able .small));
+}

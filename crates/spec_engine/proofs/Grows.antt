@@ -31,26 +31,6 @@ grows = record {
   diff = λ x y m n p q. bound (x ∷ y ∷ []) (m ∷ n ∷ []) (p, (q, tt)) (var 0 ⊝ var 1);
 }
 
--- every step can be taken, from elements of the widest range
-pub steps-fit : (n : Side) → T (fitting (steps (bits n)) (replicate (len n) 524288))
-steps-fit of4 = tt
-steps-fit of8 = tt
-steps-fit of16 = tt
-steps-fit of32 = tt
-
--- and what is left is below 2 ^ 25 in a row, and below 2 ^ 23 in a column
-pub row-bound : (n : Side) → T (all-below 20919545 (run growth (steps (bits n)) (replicate (len n) 524288)))
-row-bound of4 = tt
-row-bound of8 = tt
-row-bound of16 = tt
-row-bound of32 = tt
-
-pub column-bound : (n : Side) → T (all-below 5229919 (run growth (steps (bits n)) (replicate (len n) 131072)))
-column-bound of4 = tt
-column-bound of8 = tt
-column-bound of16 = tt
-column-bound of32 = tt
-
 -- ---- a step, and a line, at a time
 
 module _ {s : Step} {ss : List Step} {t : List ℤ} (a : Able (s ∷ ss) t) where

@@ -1,14 +1,15 @@
 -- The array T as the functions find it and leave it.
 use mathlib.Core.Path.{_≡_}
-use mathlib.Core.Bool.{cond}
+use mathlib.Core.Bool.{Bool, not, cond}
 use mathlib.Core.List.{List, _++_}
-use Prim.Native.Nat.{ℕ, _≤_, _<_}
-use lib.Dec.{eqb}
+use Prim.Native.Nat.{ℕ, _^_, _≤_, _<_}
+use lib.Dec.{T, eqb}
 use lib.IntN.{ℤ, natAbs}
 use lib.ListN.{length, drop}
 use Rattle.whole.specs.Lists.{at, tab}
 use Rattle.av1.specs.Sides.{Side, of4, of8, of16, of32, bits}
 use Rattle.itx_1d.specs.declared.Kind.{Kind}
+use Rattle.itx_1d.specs.Manners.{is-adst}
 use Rattle.itx_1d.specs.Inner.{most, Lined, Passable}
 
 -- the length 2 ^ n, for the n that the specification's transforms are for up to 32 points
@@ -31,6 +32,17 @@ pub record Held (k : ℕ) (t : List ℤ) : Type 0 where
   pub long : length t ≡ 32
   pub small : (i : ℕ) → natAbs (at t i) ≤ k
 
+-- "E8's engine still refuses" the ADSTs (E9)
+abbrev pub specified : Kind → Bool
+specified kind = not (is-adst kind)
+
+pub record Ready (kind : Kind) (n : ℕ) (t : List ℤ) : Type 0 where
+  pub kind-in : T (specified kind)
+  pub points-in : Points n
+  pub lined : Lined kind (2 ^ n)
+  pub held : Held (most kind) t
+
 pub record Transforms (kind : Kind) (c : List ℤ) (n s : ℕ) : Type 0 where
+  pub kind-in : T (specified kind)
   pub lined : Lined kind n
   pub able : Passable c s n (most kind)

@@ -463,7 +463,21 @@ fn log2(length: usize) -> usize
     }
 }
 
-// The transform of a line of 2^n elements, which are at most 524288 in size, for a WHT 16777216.
+// The transform of a kind on T. The ADSTs never come here: their types are refused.
+fn transform(kind: Kind, t: &mut [i32; 32], n: usize)
+    requires { ⌜ Arrays.Ready kind n (now t) ⌝ }
+    ensures { λ _. ⌜ Arrays.Begins (2 ^ n) (av1-pass kind (Arrays.points n) (now (t .entry))) (now (t .exit)) ⌝ }
+{
+    match kind {
+        Kind::Dct => dct(t, n),
+        Kind::Identity => identity(t, n),
+        Kind::Wht => wht(t),
+        Kind::Adst => {}
+        Kind::FlipAdst => {}
+    }
+}
+
+// A pass on a line: its elements to T, the transform, and T back to the line.
 pub fn inverse(kind: Kind, c: &mut [i32], length: usize, stride: usize)
     requires { ⌜ Arrays.Transforms kind (now c) length stride ⌝ }
     ensures { λ _. ⌜ now (c .exit) ≡ put (now (c .entry)) stride (av1-pass kind (side length) (taken (now (c .entry)) stride length)) length ⌝ }
@@ -471,10 +485,6 @@ pub fn inverse(kind: Kind, c: &mut [i32], length: usize, stride: usize)
     let n = log2(length);
     let mut t = [0i32; 32];
     load(&mut t, &*c, stride, length);
-    match kind {
-        Kind::Dct => dct(&mut t, n),
-        Kind::Identity => identity(&mut t, n),
-        Kind::Wht => wht(&mut t),
-    }
+    transform(kind, &mut t, n);
     scatter(c, stride, length, &t);
 }

@@ -1,0 +1,73 @@
+-- How large a pass without clips leaves its numbers.
+use mathlib.Core.Path.{_≡_, refl, sym, subst}
+use mathlib.Core.Bool.{false}
+use mathlib.Core.List.{List}
+use Prim.Native.Nat.{ℕ, _+_, _*_, _^_, _≤_}
+use native.Mathlib.Nat.{le-trans}
+use native.Mathlib.Omega.{arith}
+use lib.Dec.{T, lit≤, leb→le}
+use lib.IntN.{ℤ, pos, natAbs}
+use lib.ListN.{getD}
+use Rattle.whole.specs.Lists.{at, tab}
+use Rattle.av1.specs.Sides.{Side, of4, of8, of16, of32, len, bits}
+use Rattle.av1.specs.Network.{run, steps, brev, dct}
+use Rattle.av1.specs.Values.{exact}
+use Rattle.av1.proofs.Related.{both-tab, run-related}
+use Rattle.av1.proofs.Related as Related
+use Rattle.itx_1d.specs.declared.Kind.{Kind}
+use Rattle.itx_1d.specs.declared.Kind.the-variants.{Dct, Identity, Wht, Adst, FlipAdst}
+use Rattle.itx_1d.specs.Manners.{is-wht}
+use Rattle.itx_1d.specs.Passes.{pass, av1-pass}
+use Rattle.itx_1d.proofs.PassLaws.{pass-av1, pass-small}
+use Rattle.spec_engine.specs.Growth.{growth, all-below}
+use Rattle.spec_engine.specs.Lines.{Small}
+use Rattle.spec_engine.specs.Arrays.{specified}
+use Rattle.spec_engine.proofs.Grows.{grows}
+use Rattle.spec_engine.proofs.Cosines.{small-at}
+
+-- the bounds through the lines, from numbers up to k
+abbrev grown : Side → ℕ → List ℕ
+grown n k = run growth (steps (bits n)) (tab (2 ^ bits n) (λ i. k))
+
+row-bound : (n : Side) → T (all-below 20919545 (grown n 524288))
+row-bound of4 = tt
+row-bound of8 = tt
+row-bound of16 = tt
+row-bound of32 = tt
+
+column-bound : (n : Side) → T (all-below 5229919 (grown n 131072))
+column-bound of4 = tt
+column-bound of8 = tt
+column-bound of16 = tt
+column-bound of32 = tt
+
+module _ (n : Side) (xs : List ℤ) where
+  dct-small : (k m : ℕ) → T (all-below m (grown n k)) → ((i : ℕ) → natAbs (at xs i) ≤ k) → (i : ℕ) → natAbs (at (av1-pass Dct n xs) i) ≤ m
+  dct-small k m t h i =
+      let both = run-related grows (steps (bits n)) (both-tab (2 ^ bits n) (λ j. at xs (brev (bits n) j)) (λ j. k) (λ j. h (brev (bits n) j))) in
+      le-trans (Related.at Small (pos 0) 0 (omega arith) both i) (small-at (grown n k) m t i)
+
+  -- no clip: a pass that is no DCT is document 01's
+  other-small : (kind : Kind) (k : ℕ) → pass kind n 0 xs .mark ≡ false → ((i : ℕ) → natAbs (at xs i) ≤ k) → (i : ℕ) → natAbs (at (av1-pass kind n xs) i) ≤ 5 * k + 2
+  other-small kind k e h i = subst (λ (l : List ℤ). natAbs (at l i) ≤ 5 * k + 2) (pass-av1 n 0 xs kind e) (pass-small n 0 xs kind k (omega arith) h i)
+
+  -- of numbers up to 524288, which a row takes, and up to 131072, which a column takes
+  pub row-small : (kind : Kind) → T (specified kind) → ((i : ℕ) → natAbs (at xs i) ≤ 524288) → (i : ℕ) → natAbs (at (av1-pass kind n xs) i) ≤ 20919545
+  unfolding Rattle.itx_1d.specs.Passes.pass
+  row-small Dct t h i = dct-small 524288 20919545 (row-bound n) h i
+  row-small Identity t h i = le-trans (other-small Identity 524288 refl h i) (lit≤ tt)
+  row-small Wht t h i = le-trans (other-small Wht 524288 refl h i) (lit≤ tt)
+  row-small Adst t h i = absurd t
+  row-small FlipAdst t h i = absurd t
+
+  pub column-small : (kind : Kind) → T (specified kind) → ((i : ℕ) → natAbs (at xs i) ≤ 131072) → (i : ℕ) → natAbs (at (av1-pass kind n xs) i) ≤ 5229919
+  unfolding Rattle.itx_1d.specs.Passes.pass
+  column-small Dct t h i = dct-small 131072 5229919 (column-bound n) h i
+  column-small Identity t h i = le-trans (other-small Identity 131072 refl h i) (lit≤ tt)
+  column-small Wht t h i = le-trans (other-small Wht 131072 refl h i) (lit≤ tt)
+  column-small Adst t h i = absurd t
+  column-small FlipAdst t h i = absurd t
+
+  pub wht-small : (k : ℕ) → ((i : ℕ) → natAbs (at xs i) ≤ k) → (i : ℕ) → natAbs (at (av1-pass Wht n xs) i) ≤ 5 * k + 2
+  unfolding Rattle.itx_1d.specs.Passes.pass
+  wht-small k h i = other-small Wht k refl h i
