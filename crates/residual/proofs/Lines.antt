@@ -14,10 +14,10 @@ use lib.Seq.{getD-take, getD-drop, length-take-le, getD-append-add}
 use Rattle.whole.specs.Lists.{at, tab}
 use Rattle.whole.proofs.Counts.{tab-ext}
 use Rattle.av1.specs.Sides.{len, side}
-use Rattle.itx_1d.specs.declared.Kind.{Kind}
-use Rattle.itx_1d.specs.Passes.{Passed, pass}
+use Rattle.itx_1d.specs.Passes.{Passed}
 use Rattle.itx_1d.specs.Calls.{taken, put}
-use Rattle.itx_1d.specs.Inner.{PassIs, Reaches, Passable}
+use Rattle.itx_1d.specs.Inner.{Reaches, Passable}
+use Rattle.residual.specs.Inner.{Made}
 use Rattle.itx_1d.proofs.Strides.{length-put, kept, put-at, not-0}
 
 -- the part of t from x on
@@ -68,19 +68,19 @@ module _ (from s n : ℕ) (u : List ℤ) (is-length : len (side n) ≡ n) (some 
   from-inside = omega (arith, reach 0 (not-0 n is-length))
 
   -- what it gives
-  module _ (kind : Kind) (m : ℕ) (d : List ℤ) (r : Bool) (done : PassIs kind n s m (part u from) d r) where
+  module _ (φ : List ℤ → Passed) (d : List ℤ) (r : Bool) (done : Made φ n s (part u from) d r) where
     abbrev values : List ℤ
-    values = pass kind (side n) m (taken (part u from) s n) .values
+    values = φ (taken (part u from) s n) .values
 
     d-length : length d ≡ length u - from
     d-length = ap length (done .elements) ∙ length-put (part u from) s values n ∙ part-length u from
 
-    pub line-own : (j : ℕ) → j < n → at (back u from d) (from + j * s) ≡ at (pass kind (side n) m (line from s n u) .values) j
+    pub line-own : (j : ℕ) → j < n → at (back u from d) (from + j * s) ≡ at (φ (line from s n u) .values) j
     line-own j l =
         back-from u d from from-inside (j * s) (omega (arith, d-length, reach j l))
         ∙ ap (λ (xs : List ℤ). at xs (j * s)) (done .elements)
         ∙ put-at (part u from) s values some n j l line-inside
-        ∙ ap (λ (xs : List ℤ). at (pass kind (side n) m xs .values) j) taken-is
+        ∙ ap (λ (xs : List ℤ). at (φ xs .values) j) taken-is
 
     pub line-length : length (back u from d) ≡ length u
     line-length = same-len-mid from (length u - from) u d (ap length (done .elements) ∙ length-put (part u from) s values n)
@@ -104,5 +104,5 @@ module _ (from s n : ℕ) (u : List ℤ) (is-length : len (side n) ≡ n) (some 
             ∙ part-at u from (i - from) (omega arith)
             ∙ ap (at u) (sym p)
 
-    pub line-mark : r ≡ pass kind (side n) m (line from s n u) .mark
-    line-mark = done .mark ∙ ap (λ (xs : List ℤ). pass kind (side n) m xs .mark) taken-is
+    pub line-mark : r ≡ φ (line from s n u) .mark
+    line-mark = done .mark ∙ ap (λ (xs : List ℤ). φ xs .mark) taken-is

@@ -12,12 +12,19 @@ use Rattle.whole.specs.Lists.{at, tab}
 use Rattle.whole.proofs.Counts.{tab-ext, last-or-less}
 use Rattle.av1.specs.Sides.{len, side}
 use Rattle.itx_1d.specs.declared.Kind.{Kind}
-use Rattle.itx_1d.specs.Passes.{pass}
+use Rattle.itx_1d.specs.Passes.{Passed}
 use Rattle.itx_1d.specs.Inner.{PassIs, Passable}
-use Rattle.residual.specs.Inner.{fill, HoldsIn, column-made, Columned}
+use Rattle.residual.specs.declared.Engine.{Engine}
+use Rattle.residual.specs.declared.Engine.the-variants.{First}
+use Rattle.residual.specs.Blocks.{passed-by}
+use Rattle.residual.specs.Inner.{fill, HoldsIn, Made, column-by, Columned}
 use Rattle.residual.proofs.Fills.{fill-length, fill-before, fill-after, fill-own}
 use Rattle.residual.proofs.Lines.{part, back, line, passable, line-own, line-kept, line-length, line-mark}
 use Rattle.residual.proofs.Places.{by-row, same-column}
+
+-- the first engine's pass
+pub as-made : {kind : Kind} {n s m : ℕ} {c d : List ℤ} {r : Bool} → PassIs kind n s m c d r → Made (passed-by First kind (side n) m) n s c d r
+as-made p = record { elements = p .elements; mark = p .mark }
 
 -- ---- rows: t holds y rows, and u has row y loaded with e besides
 
@@ -37,15 +44,15 @@ module _ {n : ℕ} (w y : ℕ) (g : ℕ → ℕ → ℤ) (e : ℕ → ℤ) (t u 
   line-is : line (y * w) 1 w u ≡ tab w e
   line-is = tab-ext w (λ j. at u (y * w + j * 1)) e own
 
-  module _ (kind : Kind) (m : ℕ) (d : List ℤ) (r : Bool) (done : PassIs kind w 1 m (part u (y * w)) d r) (made : (x : ℕ) → g y x ≡ at (pass kind (side w) m (tab w e) .values) x) where
+  module _ (φ : List ℤ → Passed) (d : List ℤ) (r : Bool) (done : Made φ w 1 (part u (y * w)) d r) (made : (x : ℕ) → g y x ≡ at (φ (tab w e) .values) x) where
     outside-row : (i : ℕ) → ((j : ℕ) → j < w → i ≢ y * w + j * 1) → at (back u (y * w) d) i ≡ at u i
-    outside-row i f = line-kept (y * w) 1 w u is-length (omega arith) reach kind m d r done i f
+    outside-row i f = line-kept (y * w) 1 w u is-length (omega arith) reach φ d r done i f
 
     this-row : (x : ℕ) → x < w → at (back u (y * w) d) (y * w + x) ≡ g y x
     this-row x l =
         ap (at (back u (y * w) d)) (omega arith)
-        ∙ line-own (y * w) 1 w u is-length (omega arith) reach kind m d r done x l
-        ∙ ap (λ (s : List ℤ). at (pass kind (side w) m s .values) x) line-is
+        ∙ line-own (y * w) 1 w u is-length (omega arith) reach φ d r done x l
+        ∙ ap (λ (s : List ℤ). at (φ s .values) x) line-is
         ∙ sym (made x)
 
     before-row : (i : ℕ) → i < y * w → at (back u (y * w) d) i ≡ at t i
@@ -59,15 +66,18 @@ module _ {n : ℕ} (w y : ℕ) (g : ℕ → ℕ → ℤ) (e : ℕ → ℤ) (t u 
       rows = λ v x l h. last-or-less v y (λ (i : ℕ). at (back u (y * w) d) (i * w + x) ≡ g i x) (omega arith) (this-row x h)
           (λ k. before-row (v * w + x) (omega (arith, mul-le-mul-right {m = suc v} {n = y} w k)) ∙ so-far .rows v x k h);
       rest = λ i l. after-row i (omega arith) ∙ so-far .rest i (omega arith);
-      long = line-length (y * w) 1 w u is-length (omega arith) reach kind m d r done ∙ u-long;
+      long = line-length (y * w) 1 w u is-length (omega arith) reach φ d r done ∙ u-long;
     }
 
-    pub row-mark : r ≡ pass kind (side w) m (tab w e) .mark
-    row-mark = line-mark (y * w) 1 w u is-length (omega arith) reach kind m d r done ∙ ap (λ (s : List ℤ). pass kind (side w) m s .mark) line-is
+    pub row-mark : r ≡ φ (tab w e) .mark
+    row-mark = line-mark (y * w) 1 w u is-length (omega arith) reach φ d r done ∙ ap (λ (s : List ℤ). φ s .mark) line-is
 
 -- ---- columns: u has its first x columns passed
 
-module _ {n : ℕ} (kind : Kind) (m w h x : ℕ) (t u : List ℤ) (is-length : len (side h) ≡ h) (x<w : x < w) (room : h * w ≤ n) (so-far : Columned n kind m w h t x u) where
+module _ {n : ℕ} (e : Engine) (kind : Kind) (m w h x : ℕ) (t u : List ℤ) (is-length : len (side h) ≡ h) (x<w : x < w) (room : h * w ≤ n) (so-far : Columned n e kind m w h t x u) where
+  abbrev φ : List ℤ → Passed
+  φ = passed-by e kind (side h) m
+
   column-reach : (j : ℕ) → j < h → x + j * w < length u
   column-reach j l = omega (arith, so-far .long, by-row w h j x l x<w, room)
 
@@ -80,23 +90,23 @@ module _ {n : ℕ} (kind : Kind) (m w h x : ℕ) (t u : List ℤ) (is-length : l
   column-is : line x w h u ≡ tab h (λ y. at t (y * w + x))
   column-is = tab-ext h (λ j. at u (x + j * w)) (λ y. at t (y * w + x)) waits
 
-  module _ (d : List ℤ) (r : Bool) (done : PassIs kind h w m (part u x) d r) where
+  module _ (d : List ℤ) (r : Bool) (done : Made (passed-by e kind (side h) m) h w (part u x) d r) where
     others : (y i : ℕ) → i < w → i ≢ x → at (back u x d) (y * w + i) ≡ at u (y * w + i)
-    others y i g f = line-kept x w h u is-length (omega arith) column-reach kind m d r done (y * w + i) (λ j v z. f (same-column w y j i x g x<w (omega arith)))
+    others y i g f = line-kept x w h u is-length (omega arith) column-reach φ d r done (y * w + i) (λ j v z. f (same-column w y j i x g x<w (omega arith)))
 
-    this-column : (y : ℕ) → y < h → at (back u x d) (y * w + x) ≡ at (column-made kind m w h t x .values) y
+    this-column : (y : ℕ) → y < h → at (back u x d) (y * w + x) ≡ at (column-by e kind m w h t x .values) y
     this-column y l =
         ap (at (back u x d)) (omega arith)
-        ∙ line-own x w h u is-length (omega arith) column-reach kind m d r done y l
-        ∙ ap (λ (s : List ℤ). at (pass kind (side h) m s .values) y) column-is
+        ∙ line-own x w h u is-length (omega arith) column-reach φ d r done y l
+        ∙ ap (λ (s : List ℤ). at (φ s .values) y) column-is
 
-    pub column-more : Columned n kind m w h t (x + 1) (back u x d)
+    pub column-more : Columned n e kind m w h t (x + 1) (back u x d)
     column-more = record {
-      passed = λ y i l g. last-or-less i x (λ (j : ℕ). at (back u x d) (y * w + j) ≡ at (column-made kind m w h t j .values) y) (omega arith) (this-column y l)
+      passed = λ y i l g. last-or-less i x (λ (j : ℕ). at (back u x d) (y * w + j) ≡ at (column-by e kind m w h t j .values) y) (omega arith) (this-column y l)
           (λ k. others y i (omega arith) (λ z. omega arith) ∙ so-far .passed y i l k);
       waiting = λ y i l k g. others y i g (λ z. omega arith) ∙ so-far .waiting y i l (omega arith) g;
-      long = line-length x w h u is-length (omega arith) column-reach kind m d r done ∙ so-far .long;
+      long = line-length x w h u is-length (omega arith) column-reach φ d r done ∙ so-far .long;
     }
 
-    pub column-mark : r ≡ column-made kind m w h t x .mark
-    column-mark = line-mark x w h u is-length (omega arith) column-reach kind m d r done ∙ ap (λ (s : List ℤ). pass kind (side h) m s .mark) column-is
+    pub column-mark : r ≡ column-by e kind m w h t x .mark
+    column-mark = line-mark x w h u is-length (omega arith) column-reach φ d r done ∙ ap (λ (s : List ℤ). φ s .mark) column-is

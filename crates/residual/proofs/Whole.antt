@@ -6,26 +6,31 @@ use Prim.Native.Nat.{ℕ, zero, suc, _+_, _*_, _/_, _%_, _≤_, _<_}
 use native.Mathlib.Nat.{le-trans, div-add-mod', div-lt-iff-lt-mul, mod-lt, mul-le-mul-right}
 use native.Mathlib.Omega.{arith}
 use borrow.Author.Tests.{ltb-true, ltb-false}
-use lib.Dec.{ltb, lit≤}
+use lib.Dec.{T, ltb, lit≤}
 use lib.IntN.{ℤ, pos, natAbs}
 use lib.ListN.{length}
 use Rattle.whole.specs.Numbers.{round2, clip, low, high}
 use Rattle.whole.specs.Lists.{at, tab, any}
 use Rattle.whole.proofs.Clips.{clip-abs}
 use Rattle.whole.proofs.Counts.{tab-ext, any-ext}
-use Rattle.av1.specs.Sides.{side}
+use Rattle.av1.specs.Sides.{Side, side}
 use Rattle.itx_1d.specs.declared.Kind.{Kind}
-use Rattle.itx_1d.specs.Passes.{Passed, pass}
+use Rattle.itx_1d.specs.declared.Kind.the-variants.{Wht}
+use Rattle.itx_1d.specs.Passes.{Passed, av1-pass}
+use Rattle.itx_1d.specs.Manners.{is-wht}
+use Rattle.spec_engine.proofs.Sizes as Spec-sizes
 use Rattle.itx_1d.specs.Inner.{most}
-use Rattle.itx_1d.proofs.Manners.{split, at-most}
+use Rattle.itx_1d.proofs.Manners.{split, at-most, wht-alone}
 use Rattle.itx_1d.proofs.PassLaws.{pass-small}
 use Rattle.itx_1d.proofs.Strides.{not-0}
 use Rattle.bitdepth.specs.declared.Depth.{Depth}
 use Rattle.bitdepth.specs.declared.Depth.the-variants.{Eight, Ten, Twelve}
 use Rattle.bitdepth.specs.Depths.{row-range, column-range}
 use Rattle.levels.specs.declared.Plan.{Plan}
-use Rattle.residual.specs.Blocks.{way, row, middle, column, marked}
-use Rattle.residual.specs.Inner.{fill, rounding, loaded, row-made, RowsAreIn, HoldsIn, column-made, ColumnsAreIn, Sized, Coefs, ResolvedIn}
+use Rattle.residual.specs.declared.Engine.{Engine}
+use Rattle.residual.specs.declared.Engine.the-variants.{First, Spec}
+use Rattle.residual.specs.Blocks.{passed-by, serves, way-by, row, middle, column, marked}
+use Rattle.residual.specs.Inner.{fill, rounding, loaded, row-by, RowsAreIn, HoldsIn, column-by, ColumnsAreIn, Sized, Coefs, Served, ResolvedIn}
 use Rattle.residual.proofs.Fills.{fill-after, fill-own}
 use Rattle.residual.proofs.Places.{by-row, by-column}
 use Rattle.residual.proofs.Small.{entering-small}
@@ -37,10 +42,39 @@ row-range-small Eight = lit≤ tt
 row-range-small Ten = lit≤ tt
 row-range-small Twelve = lit≤ tt
 
-pub column-range-small : (d : Depth) → column-range d ≤ 524288
+pub column-range-small : (d : Depth) → column-range d ≤ 131072
 column-range-small Eight = lit≤ tt
 column-range-small Ten = lit≤ tt
 column-range-small Twelve = lit≤ tt
+
+-- what a row, and a column, leave: an engine that clips leaves less
+pub record Left (kind : Kind) (v : ℤ) : Type 0 where
+  pub most : natAbs v ≤ 20919545
+  pub of-wht : T (is-wht kind) → natAbs v ≤ 2621442
+
+rows-left : (e : Engine) (kind : Kind) (n : Side) (m : ℕ) (xs : List ℤ) → m ≤ 524288 → T (serves e kind) → ((i : ℕ) → natAbs (at xs i) ≤ 524288) → (i : ℕ) → Left kind (at (passed-by e kind n m xs .values) i)
+rows-left First kind n m xs g t h i = let l = pass-small n m xs kind 524288 g h i in record { most = le-trans l (lit≤ tt); of-wht = λ w. l }
+rows-left Spec kind n m xs g t h i = record {
+  most = Spec-sizes.row-small n xs kind t h i;
+  of-wht = λ w. subst⁻¹ (λ (k : Kind). natAbs (at (av1-pass k n xs) i) ≤ 2621442) (wht-alone kind w) (Spec-sizes.wht-small n xs 524288 h i);
+}
+
+-- of rows of one kind, and columns of the other
+columns-left : (e : Engine) (along kind : Kind) (n : Side) (m : ℕ) (xs : List ℤ) → (T (is-wht along) → kind ≡ Wht) → m ≤ 131072 → T (serves e kind)
+    → ((i : ℕ) → natAbs (at xs i) ≤ cond (is-wht along) 2621442 131072) → (i : ℕ) → natAbs (at (passed-by e kind n m xs .values) i) ≤ 16777216
+columns-left e along kind n m xs both g t h i = go (is-wht along) both h
+  where
+    wht : (e : Engine) → ((j : ℕ) → natAbs (at xs j) ≤ 2621442) → natAbs (at (passed-by e Wht n m xs .values) i) ≤ 16777216
+    wht First h = le-trans (pass-small n m xs Wht 2621442 (le-trans g (lit≤ tt)) h i) (lit≤ tt)
+    wht Spec h = le-trans (Spec-sizes.wht-small n xs 2621442 h i) (lit≤ tt)
+
+    other : (e : Engine) → T (serves e kind) → ((j : ℕ) → natAbs (at xs j) ≤ 131072) → natAbs (at (passed-by e kind n m xs .values) i) ≤ 16777216
+    other First t h = le-trans (pass-small n m xs kind 131072 g h i) (lit≤ tt)
+    other Spec t h = le-trans (Spec-sizes.column-small n xs kind t h i) (lit≤ tt)
+
+    go : (b : Bool) → (T b → kind ≡ Wht) → ((j : ℕ) → natAbs (at xs j) ≤ cond b 2621442 131072) → natAbs (at (passed-by e kind n m xs .values) i) ≤ 16777216
+    go true f h = subst⁻¹ (λ (k : Kind). natAbs (at (passed-by e k n m xs .values) i) ≤ 16777216) (f tt) (wht e h)
+    go false f h = other e t h
 
 -- what holds of zero and of the first n holds of every element
 at-tab : (P : ℤ → Type 0) (n : ℕ) (f : ℕ → ℤ) → P (pos 0) → ((i : ℕ) → i < n → P (f i)) → (i : ℕ) → P (at (tab n f) i)
@@ -62,8 +96,8 @@ at-holds P w k f t some h z g i = go (ltb i (k * w)) refl
 
 -- ---- the steps together
 
-module _ {n : ℕ} (p : Plan) (d : Depth) (c : List ℤ) (r : ℕ) (t₁ t₂ t₃ : List ℤ) (m₁ m₂ : Bool) (sized : Sized p) (room : p .h * p .w ≤ n) (coefs : Coefs p c) (some-rows : r ≤ p .h)
-    (rowed : RowsAreIn n p (row-range d) c r t₁ m₁)
+module _ {n : ℕ} (e : Engine) (p : Plan) (d : Depth) (c : List ℤ) (r : ℕ) (t₁ t₂ t₃ : List ℤ) (m₁ m₂ : Bool) (sized : Sized p) (served : Served e p) (room : p .h * p .w ≤ n) (coefs : Coefs p c) (some-rows : r ≤ p .h)
+    (rowed : RowsAreIn n e p (row-range d) c r t₁ m₁)
     (rounded : t₂ ≡ fill t₁ 0 (λ i. rounding p (low (column-range d)) (high (column-range d)) (at t₁ i)) (r * p .w))
   where
     abbrev between : ℤ → ℤ
@@ -75,11 +109,16 @@ module _ {n : ℕ} (p : Plan) (d : Depth) (c : List ℤ) (r : ℕ) (t₁ t₂ t�
     loaded-small : (y x : ℕ) → y < r → x < p .w → natAbs (loaded p c y x) ≤ 524288
     loaded-small y x l g = entering-small (p .rows) (p .w) (p .h) _ (coefs .small (y + x * p .h) (by-column (p .w) (p .h) y x (omega arith) g))
 
-    row-small : (y x : ℕ) → y < r → natAbs (at (row-made p (row-range d) c y .values) x) ≤ 2621442
-    row-small y x l = pass-small (side (p .w)) (row-range d) (tab (p .w) (loaded p c y)) (p .rows) 524288 (row-range-small d) (at-tab (λ z. natAbs z ≤ 524288) (p .w) (loaded p c y) (lit≤ tt) (λ i g. loaded-small y i l g)) x
+    -- a row leaves more than a WHT's does where nothing is clipped
+    row-small : (y x : ℕ) → y < r → Left (p .rows) (at (row-by e p (row-range d) c y .values) x)
+    row-small y x l =
+        rows-left e (p .rows) (side (p .w)) (row-range d) (tab (p .w) (loaded p c y)) (row-range-small d) (served .rows) (at-tab (λ z. natAbs z ≤ 524288) (p .w) (loaded p c y) (lit≤ tt) (λ i g. loaded-small y i l g)) x
 
-    pub rowed-small : (i : ℕ) → natAbs (at t₁ i) ≤ 2621442
-    rowed-small = at-holds (λ z. natAbs z ≤ 2621442) (p .w) r _ t₁ (not-0 (p .w) (sized .width)) (rowed .elements) (lit≤ tt) (λ y x l g. row-small y x l)
+    pub rowed-left : (i : ℕ) → Left (p .rows) (at t₁ i)
+    rowed-left = at-holds (Left (p .rows)) (p .w) r _ t₁ (not-0 (p .w) (sized .width)) (rowed .elements) (record { most = lit≤ tt; of-wht = λ t. lit≤ tt }) (λ y x l g. row-small y x l)
+
+    pub rowed-small : (i : ℕ) → natAbs (at t₁ i) ≤ 20919545
+    rowed-small i = rowed-left i .most
 
     -- what stands in row y, column x after step 4
     in-rows : (i : ℕ) → i < r * p .w → at t₂ i ≡ between (at t₁ i)
@@ -88,49 +127,50 @@ module _ {n : ℕ} (p : Plan) (d : Depth) (c : List ℤ) (r : ℕ) (t₁ t₂ t�
     after-rows : (i : ℕ) → r * p .w ≤ i → at t₂ i ≡ pos 0
     after-rows i l = ap (λ (t : List ℤ). at t i) rounded ∙ fill-after t₁ 0 (λ j. between (at t₁ j)) (r * p .w) i (omega arith) ∙ rowed .elements .rest i l
 
-    middle-is : (y x : ℕ) → x < p .w → at t₂ (y * p .w + x) ≡ middle (way p d) c r y x
+    middle-is : (y x : ℕ) → x < p .w → at t₂ (y * p .w + x) ≡ middle (way-by e p d) c r y x
     middle-is y x g = go (ltb y r) refl
       where
-        go : (b : Bool) → ltb y r ≡ b → at t₂ (y * p .w + x) ≡ cond b (between (at (row-made p (row-range d) c y .values) x)) (pos 0)
+        go : (b : Bool) → ltb y r ≡ b → at t₂ (y * p .w + x) ≡ cond b (between (at (row-by e p (row-range d) c y .values) x)) (pos 0)
         go true e = let l : y < r = ltb-true _ _ e in in-rows (y * p .w + x) (by-row (p .w) r y x l g) ∙ ap between (rowed .elements .rows y x l g)
         go false e = let l : r ≤ y = ltb-false _ _ e in after-rows (y * p .w + x) (omega (arith, mul-le-mul-right {m = r} {n = y} (p .w) l))
 
     -- sizes after step 4: a column takes them
-    ends-small : (z : ℤ) → natAbs (clip z (low (column-range d)) (high (column-range d))) ≤ 524288
+    ends-small : (z : ℤ) → natAbs (clip z (low (column-range d)) (high (column-range d))) ≤ 131072
     ends-small z = go d
       where
-        go : (b : Depth) → natAbs (clip z (low (column-range b)) (high (column-range b))) ≤ 524288
+        go : (b : Depth) → natAbs (clip z (low (column-range b)) (high (column-range b))) ≤ 131072
         go Eight = clip-abs z (low 32768) (high 32768) (lit≤ tt) (lit≤ tt)
         go Ten = clip-abs z (low 32768) (high 32768) (lit≤ tt) (lit≤ tt)
         go Twelve = clip-abs z (low 131072) (high 131072) (lit≤ tt) (lit≤ tt)
 
-    between-small : (z : ℤ) → natAbs z ≤ 2621442 → (natAbs (between z) ≤ 2621442) × (natAbs (between z) ≤ most (p .columns))
-    between-small z l =
-        let b = ends-small (round2 z (p .shift)) in
-        split (λ v. (natAbs v ≤ 2621442) × (natAbs v ≤ most (p .columns))) (p .rows) z (clip (round2 z (p .shift)) (low (column-range d)) (high (column-range d)))
-        (λ t. (l, subst⁻¹ (λ (i : Kind). natAbs z ≤ most i) (sized .wht-both t) (le-trans l (lit≤ tt)))) (le-trans b (lit≤ tt), le-trans b (at-most (p .columns)))
+    between-small : (z : ℤ) → Left (p .rows) z → natAbs (between z) ≤ cond (is-wht (p .rows)) 2621442 131072
+    between-small z l = chosen (is-wht (p .rows)) z (clip (round2 z (p .shift)) (low (column-range d)) (high (column-range d))) (l .of-wht) (ends-small (round2 z (p .shift)))
+      where
+        chosen : (b : Bool) (v w : ℤ) → (T b → natAbs v ≤ 2621442) → natAbs w ≤ 131072 → natAbs (cond b v w) ≤ cond b 2621442 131072
+        chosen true v w f g = f tt
+        chosen false v w f g = g
 
-    block-small : (i : ℕ) → (natAbs (at t₂ i) ≤ 2621442) × (natAbs (at t₂ i) ≤ most (p .columns))
+    block-small : (i : ℕ) → natAbs (at t₂ i) ≤ cond (is-wht (p .rows)) 2621442 131072
     block-small i = go (ltb i (r * p .w)) refl
       where
-        go : (b : Bool) → ltb i (r * p .w) ≡ b → (natAbs (at t₂ i) ≤ 2621442) × (natAbs (at t₂ i) ≤ most (p .columns))
-        go true e = subst⁻¹ (λ (z : ℤ). (natAbs z ≤ 2621442) × (natAbs z ≤ most (p .columns))) (in-rows i (ltb-true _ _ e)) (between-small (at t₁ i) (rowed-small i))
-        go false e = subst⁻¹ (λ (z : ℤ). (natAbs z ≤ 2621442) × (natAbs z ≤ most (p .columns))) (after-rows i (ltb-false _ _ e)) (lit≤ tt, omega arith)
+        go : (b : Bool) → ltb i (r * p .w) ≡ b → natAbs (at t₂ i) ≤ cond (is-wht (p .rows)) 2621442 131072
+        go true e = subst⁻¹ (λ (z : ℤ). natAbs z ≤ cond (is-wht (p .rows)) 2621442 131072) (in-rows i (ltb-true _ _ e)) (between-small (at t₁ i) (rowed-left i))
+        go false e = subst⁻¹ (λ (z : ℤ). natAbs z ≤ cond (is-wht (p .rows)) 2621442 131072) (after-rows i (ltb-false _ _ e)) (omega arith)
 
     pub for-columns : (i : ℕ) → natAbs (at t₂ i) ≤ most (p .columns)
-    for-columns i = block-small i .1
+    for-columns i = le-trans (block-small i) (split (λ k. k ≤ most (p .columns)) (p .rows) 2621442 131072 (λ t. subst⁻¹ (λ (k : Kind). 2621442 ≤ most k) (sized .wht-both t) (lit≤ tt)) (le-trans (lit≤ tt) (at-most (p .columns))))
 
-    module _ (columned : ColumnsAreIn n (p .columns) (column-range d) (p .w) (p .h) t₂ (p .w) t₃ m₂) where
-      column-is : (x : ℕ) → x < p .w → column-made (p .columns) (column-range d) (p .w) (p .h) t₂ x ≡ column (way p d) c r x
-      column-is x g = ap (pass (p .columns) (side (p .h)) (column-range d)) (tab-ext (p .h) _ _ (λ y l. middle-is y x g))
+    module _ (columned : ColumnsAreIn n e (p .columns) (column-range d) (p .w) (p .h) t₂ (p .w) t₃ m₂) where
+      column-is : (x : ℕ) → x < p .w → column-by e (p .columns) (column-range d) (p .w) (p .h) t₂ x ≡ column (way-by e p d) c r x
+      column-is x g = ap (passed-by e (p .columns) (side (p .h)) (column-range d)) (tab-ext (p .h) _ _ (λ y l. middle-is y x g))
 
       column-small : (y x : ℕ) → y < p .h → x < p .w → natAbs (at t₃ (y * p .w + x)) ≤ 16777216
       column-small y x l g =
           subst⁻¹ (λ (z : ℤ). natAbs z ≤ 16777216) (columned .elements .passed y x l g)
-          (le-trans (pass-small (side (p .h)) (column-range d) (tab (p .h) (λ v. at t₂ (v * p .w + x))) (p .columns) 2621442 (le-trans (column-range-small d) (lit≤ tt))
-          (at-tab (λ z. natAbs z ≤ 2621442) (p .h) (λ v. at t₂ (v * p .w + x)) (lit≤ tt) (λ v k. block-small (v * p .w + x) .0)) y) (lit≤ tt))
+          (columns-left e (p .rows) (p .columns) (side (p .h)) (column-range d) (tab (p .h) (λ v. at t₂ (v * p .w + x))) (sized .wht-both) (column-range-small d) (served .columns)
+          (at-tab (λ z. natAbs z ≤ cond (is-wht (p .rows)) 2621442 131072) (p .h) (λ v. at t₂ (v * p .w + x)) (omega arith) (λ v k. block-small (v * p .w + x))) y)
 
-      pub resolved : ResolvedIn n p d c r t₃ (m₁ || m₂)
+      pub resolved : ResolvedIn n e p d c r t₃ (m₁ || m₂)
       resolved = record {
         elements = λ y x l g. columned .elements .passed y x l g ∙ ap (λ (s : Passed). at (s .values) y) (column-is x g);
         small = column-small;

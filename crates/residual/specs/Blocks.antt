@@ -1,18 +1,21 @@
 -- The residual of a block: document 01, "Two-dimensional transform", steps 1 to 6, the WHT and the shortcut.
-use mathlib.Core.Bool.{Bool, cond, _||_}
+use mathlib.Core.Bool.{Bool, true, false, cond, _||_}
 use mathlib.Core.List.{List}
 use Prim.Native.Nat.{ℕ, _+_, _*_}
 use lib.Dec.{eqb, ltb}
 use lib.IntN.{ℤ, pos, _+ℤ_, _*ℤ_}
 use Rattle.whole.specs.Numbers.{_>>_, round2, clip, low, high}
 use Rattle.whole.specs.Lists.{at, tab, any}
-use Rattle.av1.specs.Sides.{side}
+use Rattle.av1.specs.Sides.{Side, side}
 use Rattle.itx_1d.specs.declared.Kind.{Kind}
 use Rattle.itx_1d.specs.Manners.{is-wht}
-use Rattle.itx_1d.specs.Passes.{Passed, pass}
+use Rattle.itx_1d.specs.Passes.{Passed, pass, av1-pass}
+use Rattle.spec_engine.specs.Arrays.{specified}
 use Rattle.bitdepth.specs.declared.Depth.{Depth}
 use Rattle.bitdepth.specs.Depths.{row-range, column-range}
 use Rattle.levels.specs.declared.Plan.{Plan}
+use Rattle.residual.specs.declared.Engine.{Engine}
+use Rattle.residual.specs.declared.Engine.the-variants.{First, Spec}
 
 -- a way through a block: the passes, and what becomes of each number before, between and after them
 pub record Way : Type 0 where
@@ -57,23 +60,37 @@ prescale w h v = cond (eqb (w * 2) h || eqb (h * 2) w) (round2 (v *ℤ pos 181) 
 abbrev pub if-wht : Kind → ℤ → ℤ → ℤ
 if-wht kind a b = cond (is-wht kind) a b
 
+-- the two engines differ in the passes alone: document 01's; and, for E8, the AV1 specification's, which clip nothing and have no mark
+abbrev pub passed-by : Engine → Kind → Side → ℕ → List ℤ → Passed
+passed-by First kind n m = pass kind n m
+passed-by Spec kind n m = λ xs. record { values = av1-pass kind n xs; mark = false }
+
+-- the kinds that an engine has: "E8's engine still refuses them" (E9)
+abbrev pub serves : Engine → Kind → Bool
+serves First kind = true
+serves Spec kind = specified kind
+
 -- "WHT_WHT: coefficients are shifted right by 2, rows, columns .. no step 2, 4 or rounding."
-abbrev pub way : Plan → Depth → Way
-way p d =
+abbrev pub way-by : Engine → Plan → Depth → Way
+way-by e p d =
     let m = column-range d in
     record {
       w = p .w;
       h = p .h;
       enter = λ v. if-wht (p .rows) (v >> 2) (prescale (p .w) (p .h) v);
       -- step 3: "Row pass on every row, with the row range."
-      row = pass (p .rows) (side (p .w)) (row-range d);
+      row = passed-by e (p .rows) (side (p .w)) (row-range d);
       -- step 4: "v + rnd >> shift, clipped to the column range"; rnd is that of Round2
       between = λ v. if-wht (p .rows) v (clip (round2 v (p .shift)) (low m) (high m));
       -- step 5: "Column pass with the column range."
-      column = pass (p .columns) (side (p .h)) m;
+      column = passed-by e (p .columns) (side (p .h)) m;
       -- step 6: "v + 8 >> 4"
       leave = λ v. if-wht (p .columns) v (round2 v 4);
     }
+
+-- the first engine's
+abbrev pub way : Plan → Depth → Way
+way = way-by First
 
 -- "d is the first coefficient; step 2 if due; d = 181d + 128 >> 8; d = d + rnd >> shift; d = 181d + 2176 >> 12"
 unfoldable pub shortcut : Plan → ℤ → ℤ

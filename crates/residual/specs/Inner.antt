@@ -11,12 +11,15 @@ use Rattle.whole.specs.Lists.{at, tab, any}
 use Rattle.av1.specs.Sides.{len, side}
 use Rattle.itx_1d.specs.declared.Kind.{Kind}
 use Rattle.itx_1d.specs.declared.Kind.the-variants.{Dct, Wht}
-use Rattle.itx_1d.specs.Passes.{Passed, pass}
+use Rattle.itx_1d.specs.Passes.{Passed}
+use Rattle.itx_1d.specs.Calls.{taken, put}
 use Rattle.itx_1d.specs.Manners.{is-wht}
 use Rattle.itx_1d.specs.Inner.{revs, source, most, Lined, Limited}
 use Rattle.bitdepth.specs.declared.Depth.{Depth}
 use Rattle.levels.specs.declared.Plan.{Plan}
-use Rattle.residual.specs.Blocks.{column, marked, if-wht, prescale, way}
+use Rattle.residual.specs.declared.Engine.{Engine}
+use Rattle.residual.specs.declared.Engine.the-variants.{First}
+use Rattle.residual.specs.Blocks.{column, marked, if-wht, prescale, passed-by, serves, way-by}
 
 abbrev pub entering : Kind → ℕ → ℕ → ℤ → ℤ
 entering rows w h v = if-wht rows (v >> 2) (prescale w h v)
@@ -50,6 +53,11 @@ pub record Coefs (p : Plan) (c : List ℤ) : Type 0 where
   pub count : p .w * p .h ≤ length c
   pub small : (i : ℕ) → i < p .w * p .h → natAbs (at c i) ≤ 524288
 
+-- what a pass f makes of the list c
+pub record Made (f : List ℤ → Passed) (n s : ℕ) (c d : List ℤ) (r : Bool) : Type 0 where
+  pub elements : d ≡ put c s (f (taken c s n) .values) n
+  pub mark : r ≡ f (taken c s n) .mark
+
 -- what the loops ask
 pub record RowLoads (p : Plan) (c : List ℤ) (y : ℕ) (t : List ℤ) : Type 0 where
   pub sized : Sized p
@@ -63,7 +71,7 @@ rounding p lo hi v = if-wht (p .rows) v (clip (round2 v (p .shift)) lo hi)
 pub record Rounds (p : Plan) (n : ℕ) (t : List ℤ) : Type 0 where
   pub shift-small : p .shift ≤ 2
   pub inside : n ≤ length t
-  pub small : (i : ℕ) → natAbs (at t i) ≤ 16777216
+  pub small : (i : ℕ) → natAbs (at t i) ≤ 1073741823
 
 -- steps 1 to 3: what they ask, what a pass with the range -m .. m - 1 makes of row y, and what they leave after k rows
 pub record RowsLoad (p : Plan) (c : List ℤ) (r : ℕ) (lo hi : ℤ) (t : List ℤ) : Type 0 where
@@ -77,15 +85,22 @@ pub record RowsLoad (p : Plan) (c : List ℤ) (r : ℕ) (lo hi : ℤ) (t : List 
 abbrev pub loaded : Plan → List ℤ → ℕ → ℕ → ℤ
 loaded p c y x = entering (p .rows) (p .w) (p .h) (at c (y + x * p .h))
 
-abbrev pub row-made : Plan → ℕ → List ℤ → ℕ → Passed
-row-made p m c y = pass (p .rows) (side (p .w)) m (tab (p .w) (loaded p c y))
+abbrev pub row-by : Engine → Plan → ℕ → List ℤ → ℕ → Passed
+row-by e p m c y = passed-by e (p .rows) (side (p .w)) m (tab (p .w) (loaded p c y))
 
-pub record RowsAreIn (n : ℕ) (p : Plan) (m : ℕ) (c : List ℤ) (k : ℕ) (t : List ℤ) (mark : Bool) : Type 0 where
-  pub elements : HoldsIn n (p .w) k (λ y x. at (row-made p m c y .values) x) t
-  pub marked : mark ≡ any k (λ y. row-made p m c y .mark)
+pub record RowsAreIn (n : ℕ) (e : Engine) (p : Plan) (m : ℕ) (c : List ℤ) (k : ℕ) (t : List ℤ) (mark : Bool) : Type 0 where
+  pub elements : HoldsIn n (p .w) k (λ y x. at (row-by e p m c y .values) x) t
+  pub marked : mark ≡ any k (λ y. row-by e p m c y .mark)
+
+abbrev pub RowsBy : Engine → Plan → ℕ → List ℤ → ℕ → List ℤ → Bool → Type 0
+RowsBy = RowsAreIn 1024
+
+-- by the first engine
+abbrev pub row-made : Plan → ℕ → List ℤ → ℕ → Passed
+row-made = row-by First
 
 abbrev pub RowsAre : Plan → ℕ → List ℤ → ℕ → List ℤ → Bool → Type 0
-RowsAre = RowsAreIn 1024
+RowsAre = RowsBy First
 
 -- the first k numbers, which an identity takes
 pub record Scales (k : ℕ) (t : List ℤ) : Type 0 where
@@ -143,11 +158,11 @@ pub record Quickly (q : Bool) (Done : Type 0) (t u : List ℤ) : Type 0 where
   pub same : q ≡ false → u ≡ t
 
 -- step 5: what a pass makes of column x of the block, what the passes ask, and what they leave after k columns
-abbrev pub column-made : Kind → ℕ → ℕ → ℕ → List ℤ → ℕ → Passed
-column-made kind m w h t x = pass kind (side h) m (tab h (λ y. at t (y * w + x)))
+abbrev pub column-by : Engine → Kind → ℕ → ℕ → ℕ → List ℤ → ℕ → Passed
+column-by e kind m w h t x = passed-by e kind (side h) m (tab h (λ y. at t (y * w + x)))
 
-pub record Columned (n : ℕ) (kind : Kind) (m w h : ℕ) (t : List ℤ) (k : ℕ) (u : List ℤ) : Type 0 where
-  pub passed : (y x : ℕ) → y < h → x < k → at u (y * w + x) ≡ at (column-made kind m w h t x .values) y
+pub record Columned (n : ℕ) (e : Engine) (kind : Kind) (m w h : ℕ) (t : List ℤ) (k : ℕ) (u : List ℤ) : Type 0 where
+  pub passed : (y x : ℕ) → y < h → x < k → at u (y * w + x) ≡ at (column-by e kind m w h t x .values) y
   pub waiting : (y x : ℕ) → y < h → k ≤ x → x < w → at u (y * w + x) ≡ at t (y * w + x)
   pub long : length u ≡ n
 
@@ -160,12 +175,15 @@ pub record ColumnsPass (kind : Kind) (w h : ℕ) (lo hi : ℤ) (t : List ℤ) : 
   pub small : (i : ℕ) → natAbs (at t i) ≤ most kind
   pub long : length t ≡ 1024
 
-pub record ColumnsAreIn (n : ℕ) (kind : Kind) (m w h : ℕ) (t : List ℤ) (k : ℕ) (u : List ℤ) (mark : Bool) : Type 0 where
-  pub elements : Columned n kind m w h t k u
-  pub marked : mark ≡ any k (λ x. column-made kind m w h t x .mark)
+pub record ColumnsAreIn (n : ℕ) (e : Engine) (kind : Kind) (m w h : ℕ) (t : List ℤ) (k : ℕ) (u : List ℤ) (mark : Bool) : Type 0 where
+  pub elements : Columned n e kind m w h t k u
+  pub marked : mark ≡ any k (λ x. column-by e kind m w h t x .mark)
+
+abbrev pub ColumnsBy : Engine → Kind → ℕ → ℕ → ℕ → List ℤ → ℕ → List ℤ → Bool → Type 0
+ColumnsBy = ColumnsAreIn 1024
 
 abbrev pub ColumnsAre : Kind → ℕ → ℕ → ℕ → List ℤ → ℕ → List ℤ → Bool → Type 0
-ColumnsAre = ColumnsAreIn 1024
+ColumnsAre = ColumnsBy First
 
 -- the columns at once: what the loops ask, and give
 pub record Lays (rev : List ℕ) (t : List ℤ) (w h : ℕ) (u : List ℤ) : Type 0 where
@@ -195,13 +213,18 @@ pub record ResolvesIn (n : ℕ) (p : Plan) (c : List ℤ) (r : ℕ) (t : List �
 abbrev pub Resolves : Plan → List ℤ → ℕ → List ℤ → Type 0
 Resolves = ResolvesIn 1024
 
-pub record ResolvedIn (n : ℕ) (p : Plan) (d : Depth) (c : List ℤ) (r : ℕ) (t : List ℤ) (mark : Bool) : Type 0 where
-  pub elements : (y x : ℕ) → y < p .h → x < p .w → at t (y * p .w + x) ≡ at (column (way p d) c r x .values) y
+-- an engine that has the plan's kinds
+pub record Served (e : Engine) (p : Plan) : Type 0 where
+  pub rows : T (serves e (p .rows))
+  pub columns : T (serves e (p .columns))
+
+pub record ResolvedIn (n : ℕ) (e : Engine) (p : Plan) (d : Depth) (c : List ℤ) (r : ℕ) (t : List ℤ) (mark : Bool) : Type 0 where
+  pub elements : (y x : ℕ) → y < p .h → x < p .w → at t (y * p .w + x) ≡ at (column (way-by e p d) c r x .values) y
   pub small : (y x : ℕ) → y < p .h → x < p .w → natAbs (at t (y * p .w + x)) ≤ 16777216
   pub long : length t ≡ n
-  pub mark-is : mark ≡ marked (way p d) c r
+  pub mark-is : mark ≡ marked (way-by e p d) c r
 
-abbrev pub Resolved : Plan → Depth → List ℤ → ℕ → List ℤ → Bool → Type 0
+abbrev pub Resolved : Engine → Plan → Depth → List ℤ → ℕ → List ℤ → Bool → Type 0
 Resolved = ResolvedIn 1024
 
 -- the plan of WHT_WHT, whose shift no step takes

@@ -7,7 +7,9 @@ ghost use lib.ListN.{length};
 ghost use Rattle.whole.specs.Numbers.{round2, clip};
 ghost use Rattle.whole.specs.Lists.{at, any};
 ghost use Rattle.av1.specs.Sides.{side};
+ghost use lib.Dec.{T};
 ghost use Rattle.itx_1d.specs.Passes.{identity};
+ghost use Rattle.itx_1d.specs.Inner.{Passing};
 ghost use Rattle.residual.specs.Blocks as Blocks;
 ghost use Rattle.residual.specs.Inner as Inner;
 use bitdepth::Depth;
@@ -20,6 +22,13 @@ use itx_1d::inv_1d;
 use itx_1d::wht4;
 use lanes::dct;
 use levels::Plan;
+use spec_engine::inverse;
+
+// Whose passes a block goes through: the first engine's are the crate's (document 01), the second's are the AV1 specification's own steps (E8).
+pub enum Engine {
+    First,
+    Spec,
+}
 
 // Step 2, and the shift of a WHT.
 fn enter(rows: Kind, w: usize, h: usize, v: i32) -> i32
@@ -38,7 +47,7 @@ fn enter(rows: Kind, w: usize, h: usize, v: i32) -> i32
 
 // v + rnd >> shift.
 fn rounded(v: i32, shift: u32) -> i32
-    requires { ⌜ (natAbs v ≤ 16777216) × (shift ≤ 2) ⌝ }
+    requires { ⌜ (natAbs v ≤ 1073741823) × (shift ≤ 2) ⌝ }
     ensures { λ r. ⌜ r ≡ round2 v shift ⌝ }
 {
     match shift {
@@ -50,7 +59,7 @@ fn rounded(v: i32, shift: u32) -> i32
 
 // Step 4; a WHT has none.
 fn between(rows: Kind, shift: u32, v: i32, min: i32, max: i32) -> i32
-    requires { ⌜ (natAbs v ≤ 16777216) × (shift ≤ 2) ⌝ }
+    requires { ⌜ (natAbs v ≤ 1073741823) × (shift ≤ 2) ⌝ }
     ensures { λ r. ⌜ r ≡ Blocks.if-wht rows v (clip (round2 v shift) min max) ⌝ }
 {
     if let Kind::Wht = rows {
@@ -113,33 +122,63 @@ fn round(t: &mut [i32], plan: Plan, n: usize, min: i32, max: i32)
     }
 }
 
+// A pass on a line of the block, by either engine. The second takes no range, and has no mark.
+fn pass_by(
+    engine: Engine,
+    kind: Kind,
+    c: &mut [i32],
+    n: usize,
+    stride: usize,
+    min: i32,
+    max: i32,
+) -> bool
+    requires { ⌜ Passing kind (now c) n stride min max × T (Blocks.serves engine kind) ⌝ }
+    ensures { λ r. ⌜ Inner.Made (Blocks.passed-by engine kind (side n) (natAbs min)) n stride (now (c .entry)) (now (c .exit)) r ⌝ }
+{
+    match engine {
+        Engine::First => inv_1d(kind, c, n, stride, min, max),
+        Engine::Spec => {
+            inverse(kind, c, n, stride);
+            false
+        }
+    }
+}
+
 // Steps 1 to 3 on rows 0..r-1, one after the other, as the crate's first loop; the scratch block is zero after them.
-fn rows_by_line(t: &mut [i32], plan: Plan, coeff: &[i32], r: usize, min: i32, max: i32) -> bool
-    requires { ⌜ Inner.RowsLoad plan (now coeff) r min max (now t) ⌝ }
-    ensures { λ m. ⌜ Inner.RowsAre plan (natAbs min) (now (coeff .entry)) r (now (t .exit)) m ⌝ }
+fn rows_by_line(
+    t: &mut [i32],
+    engine: Engine,
+    plan: Plan,
+    coeff: &[i32],
+    r: usize,
+    min: i32,
+    max: i32,
+) -> bool
+    requires { ⌜ Inner.RowsLoad plan (now coeff) r min max (now t) × T (Blocks.serves engine (plan .rows)) ⌝ }
+    ensures { λ m. ⌜ Inner.RowsBy engine plan (natAbs min) (now (coeff .entry)) r (now (t .exit)) m ⌝ }
 {
     let kind = plan.rows;
     let w = plan.w;
     let mut mark = false;
     for y in 0..r {
         load_row(&mut *t, plan, coeff, y);
-        let hit = inv_1d(kind, &mut t[y * w..], w, 1, min, max);
+        let hit = pass_by(engine, kind, &mut t[y * w..], w, 1, min, max);
         mark = mark | hit;
     }
     mark
 }
 
 // Step 5, one column after the other.
-fn columns_by_line(t: &mut [i32], plan: Plan, min: i32, max: i32) -> bool
-    requires { ⌜ Inner.ColumnsPass (plan .columns) (plan .w) (plan .h) min max (now t) ⌝ }
-    ensures { λ m. ⌜ Inner.ColumnsAre (plan .columns) (natAbs min) (plan .w) (plan .h) (now (t .entry)) (plan .w) (now (t .exit)) m ⌝ }
+fn columns_by_line(t: &mut [i32], engine: Engine, plan: Plan, min: i32, max: i32) -> bool
+    requires { ⌜ Inner.ColumnsPass (plan .columns) (plan .w) (plan .h) min max (now t) × T (Blocks.serves engine (plan .columns)) ⌝ }
+    ensures { λ m. ⌜ Inner.ColumnsBy engine (plan .columns) (natAbs min) (plan .w) (plan .h) (now (t .entry)) (plan .w) (now (t .exit)) m ⌝ }
 {
     let kind = plan.columns;
     let w = plan.w;
     let h = plan.h;
     let mut mark = false;
     for x in 0..w {
-        let hit = inv_1d(kind, &mut t[x..], h, w, min, max);
+        let hit = pass_by(engine, kind, &mut t[x..], h, w, min, max);
         mark = mark | hit;
     }
     mark
@@ -262,12 +301,12 @@ fn rows(
         return false;
     }
     let Kind::Dct = kind else {
-        return rows_by_line(t, plan, coeff, r, min, max);
+        return rows_by_line(t, Engine::First, plan, coeff, r, min, max);
     };
     if quick_rows(&mut *t, u, rev, plan, coeff, r, min, max) {
         return false;
     }
-    rows_by_line(t, plan, coeff, r, min, max)
+    rows_by_line(t, Engine::First, plan, coeff, r, min, max)
 }
 
 // n numbers of t from `j` on to the places of u from `i` on.
@@ -345,12 +384,12 @@ fn columns(
         return false;
     }
     let Kind::Dct = kind else {
-        return columns_by_line(t, plan, min, max);
+        return columns_by_line(t, Engine::First, plan, min, max);
     };
     if quick_columns(&mut *t, u, rev, w, h, min, max) {
         return false;
     }
-    columns_by_line(t, plan, min, max)
+    columns_by_line(t, Engine::First, plan, min, max)
 }
 
 // Steps 1 to 3 of WHT_WHT on rows 0..r-1.
@@ -374,7 +413,7 @@ fn rows_of_wht(t: &mut [i32], coeff: &[i32], r: usize)
 // Step 5 of WHT_WHT.
 fn columns_of_wht(t: &mut [i32])
     requires { ⌜ (length (now t) ≡ 16) × ((i : ℕ) → natAbs (at (now t) i) ≤ 16777216) ⌝ }
-    ensures { λ _. ⌜ Inner.Columned 16 Kind.Wht 0 4 4 (now (t .entry)) 4 (now (t .exit)) ⌝ }
+    ensures { λ _. ⌜ Inner.Columned 16 Engine.First Kind.Wht 0 4 4 (now (t .entry)) 4 (now (t .exit)) ⌝ }
 {
     for x in 0..4 {
         wht4(&mut t[x..], 4);
@@ -384,24 +423,71 @@ fn columns_of_wht(t: &mut [i32])
 // Steps 1 to 5 of WHT_WHT with r live rows, on sixteen zeros. No pass has the mark.
 pub fn resolve_wht(t: &mut [i32], coeff: &[i32], r: usize)
     requires { ⌜ Inner.ResolvesIn 16 (Inner.wht-plan 0) (now coeff) r (now t) ⌝ }
-    ensures { λ _. ⌜ ((shift : ℕ) (depth : Depth) → Inner.ResolvedIn 16 (Inner.wht-plan shift) depth (now (coeff .entry)) r (now (t .exit)) Bool.false) ⌝ }
+    ensures { λ _. ⌜ ((shift : ℕ) (depth : Depth) → Inner.ResolvedIn 16 Engine.First (Inner.wht-plan shift) depth (now (coeff .entry)) r (now (t .exit)) Bool.false) ⌝ }
 {
     rows_of_wht(&mut *t, coeff, r);
     columns_of_wht(&mut *t);
 }
 
-// Steps 1 to 5 with r live rows, on a scratch block of zeros.
-pub fn resolve(t: &mut [i32], plan: Plan, depth: Depth, coeff: &[i32], r: usize) -> bool
-    requires { ⌜ Inner.Resolves plan (now coeff) r (now t) ⌝ }
-    ensures { λ m. ⌜ Inner.Resolved plan depth (now (coeff .entry)) r (now (t .exit)) m ⌝ }
+// Steps 1 to 3 by an engine: the first one's ways, or line by line.
+fn rows_by(
+    engine: Engine,
+    t: &mut [i32],
+    u: &mut [i32; 1024],
+    rev: &[u8; 32],
+    plan: Plan,
+    coeff: &[i32],
+    r: usize,
+    min: i32,
+    max: i32,
+) -> bool
+    requires { ⌜ Inner.RowsLoad plan (now coeff) r min max (now t) × Inner.Lends (now rev) (now u) × T (Blocks.serves engine (plan .rows)) ⌝ }
+    ensures { λ m. ⌜ Inner.RowsBy engine plan (natAbs min) (now (coeff .entry)) r (now (t .exit)) m × (length (now (u .exit)) ≡ 1024) ⌝ }
+{
+    let Engine::First = engine else {
+        return rows_by_line(t, engine, plan, coeff, r, min, max);
+    };
+    rows(t, u, rev, plan, coeff, r, min, max)
+}
+
+// Step 5 by an engine.
+fn columns_by(
+    engine: Engine,
+    t: &mut [i32],
+    u: &mut [i32; 1024],
+    rev: &[u8; 32],
+    plan: Plan,
+    min: i32,
+    max: i32,
+) -> bool
+    requires { ⌜ Inner.ColumnsPass (plan .columns) (plan .w) (plan .h) min max (now t) × Inner.Lends (now rev) (now u) × T (Blocks.serves engine (plan .columns)) ⌝ }
+    ensures { λ m. ⌜ Inner.ColumnsBy engine (plan .columns) (natAbs min) (plan .w) (plan .h) (now (t .entry)) (plan .w) (now (t .exit)) m ⌝ }
+{
+    let Engine::First = engine else {
+        return columns_by_line(t, engine, plan, min, max);
+    };
+    columns(t, u, rev, plan, min, max)
+}
+
+// Steps 1 to 5 with r live rows, on a scratch block of zeros. The engines differ in steps 3 and 5.
+pub fn resolve(
+    engine: Engine,
+    t: &mut [i32],
+    plan: Plan,
+    depth: Depth,
+    coeff: &[i32],
+    r: usize,
+) -> bool
+    requires { ⌜ Inner.Resolves plan (now coeff) r (now t) × Inner.Served engine plan ⌝ }
+    ensures { λ m. ⌜ Inner.Resolved engine plan depth (now (coeff .entry)) r (now (t .exit)) m ⌝ }
 {
     let w = plan.w;
     let rev = REV;
     let mut u = [0i32; 1024];
     let Range { lo, hi } = depth.row_range();
-    let along = rows(&mut *t, &mut u, &rev, plan, coeff, r, lo, hi);
+    let along = rows_by(engine, &mut *t, &mut u, &rev, plan, coeff, r, lo, hi);
     let Range { lo: min, hi: max } = depth.column_range();
     round(&mut *t, plan, r * w, min, max);
-    let down = columns(&mut *t, &mut u, &rev, plan, min, max);
+    let down = columns_by(engine, &mut *t, &mut u, &rev, plan, min, max);
     along | down
 }

@@ -60,9 +60,11 @@ still c κs =
     let q = c .before .before in
     let z = s q in
     let p = z .args .plan in
-    let same = q .before .quick-columns .ensures .same (c .before .if1 .left) in
-    to2 (λ lo hi. ColumnsPass (p .columns) (p .w) (p .h) lo hi (q .before .quick-columns .last .0)) (z .fits .min) (z .fits .max)
-    (subst⁻¹ (ColumnsPass (p .columns) (p .w) (p .h) (z .args .min) (z .args .max)) same (z .pre .0))
+    let same = q .before .quick-columns .ensures .same (c .before .if1 .left) in (
+      to2 (λ lo hi. ColumnsPass (p .columns) (p .w) (p .h) lo hi (q .before .quick-columns .last .0)) (z .fits .min) (z .fits .max)
+          (subst⁻¹ (ColumnsPass (p .columns) (p .w) (p .h) (z .args .min) (z .args .max)) same (z .pre .0)),
+      tt,
+    )
 
 quickly : tie.Need-returns-3
 quickly c =

@@ -14,31 +14,33 @@ use Rattle.whole.proofs.Held.{to2}
 use Rattle.itx_1d.specs.Inner.{most, Limited}
 use Rattle.itx_1d.proofs.Strides.{not-0}
 use Rattle.whole.proofs.Counts.{any-snoc}
-use Rattle.residual.specs.Inner.{column-made, ColumnsAre}
+use Rattle.residual.specs.Inner.{column-by, ColumnsBy}
 use Rattle.residual.proofs.Places.{by-row}
 use Rattle.residual.proofs.Steps.{column-passable, column-more, column-mark}
 use Rattle.residual.proofs.columns_by_line.Statement.{statement}
 use Rattle.residual.proofs.columns_by_line.Tie as tie
 
 abbrev Inv-loop : tie.InvT-loop
-Inv-loop t₀ min max kind w h mark₀ x₀ t mark x = ColumnsAre kind (natAbs (toZ w32 min)) w h t₀ x t mark × (x ≤ w)
+Inv-loop t₀ engine min max kind w h mark₀ x₀ t mark x = ColumnsBy engine kind (natAbs (toZ w32 min)) w h t₀ x t mark × (x ≤ w)
 
 abbrev μ-loop : tie.MeasureT-loop
-μ-loop t₀ min max kind w h mark₀ x₀ t mark x = w - x
+μ-loop t₀ engine min max kind w h mark₀ x₀ t mark x = w - x
 
 loop-holds : tie.Need-loop-holds Inv-loop μ-loop
-loop-holds c = (record { elements = record { passed = λ y x l g. (let f : ⊥ = omega arith in absurd f); waiting = λ y x l k g. refl; long = c .pre .long }; marked = refl }, omega arith)
+loop-holds c = (record { elements = record { passed = λ y x l g. (let f : ⊥ = omega arith in absurd f); waiting = λ y x l k g. refl; long = c .pre .0 .long }; marked = refl }, omega arith)
 
-inv-1d-requires : tie.Need-inv-1d-requires Inv-loop μ-loop
-inv-1d-requires c κs =
+pass-by-requires : tie.Need-pass-by-requires Inv-loop μ-loop
+pass-by-requires c κs =
     let i = c .before in
     let h = i .before .loop in
-    let s = i .before .before in
-    record {
-      lined = s .pre .lined;
-      limited = to2 (Limited (s .args .plan .columns)) (s .fits .min) (s .fits .max) (s .pre .limited);
-      able = column-passable (s .args .plan .columns) (natAbs (toZ w32 (ofZ w32 (s .args .min)))) (s .args .plan .w) (s .args .plan .h) (h .x) (s .args .t .now) (h .t) (s .pre .is-length) (i .loop-test .taken) (s .pre .room) (h .inv .0 .elements) (most (s .args .plan .columns)) (s .pre .small);
-    }
+    let s = i .before .before in (
+      record {
+        lined = s .pre .0 .lined;
+        limited = to2 (Limited (s .args .plan .columns)) (s .fits .min) (s .fits .max) (s .pre .0 .limited);
+        able = column-passable (s .args .engine) (s .args .plan .columns) (natAbs (toZ w32 (ofZ w32 (s .args .min)))) (s .args .plan .w) (s .args .plan .h) (h .x) (s .args .t .now) (h .t) (s .pre .0 .is-length) (i .loop-test .taken) (s .pre .0 .room) (h .inv .0 .elements) (most (s .args .plan .columns)) (s .pre .0 .small);
+      },
+      s .pre .1,
+    )
 
 loop-again : tie.Need-loop-again Inv-loop μ-loop
 loop-again c =
@@ -47,10 +49,10 @@ loop-again c =
     let h = i .before .loop in
     let s = i .before .before in
     let m = natAbs (toZ w32 (ofZ w32 (s .args .min))) in
-    let f : ℕ → Bool = λ x. column-made (s .args .plan .columns) m (s .args .plan .w) (s .args .plan .h) (s .args .t .now) x .mark in
-    let mark = column-mark (s .args .plan .columns) m (s .args .plan .w) (s .args .plan .h) (h .x) (s .args .t .now) (h .t) (s .pre .is-length) (i .loop-test .taken) (s .pre .room) (h .inv .0 .elements) (d .inv-1d .last .1 .0) (d .inv-1d .result) (d .inv-1d .ensures) in (
+    let f : ℕ → Bool = λ x. column-by (s .args .engine) (s .args .plan .columns) m (s .args .plan .w) (s .args .plan .h) (s .args .t .now) x .mark in
+    let mark = column-mark (s .args .engine) (s .args .plan .columns) m (s .args .plan .w) (s .args .plan .h) (h .x) (s .args .t .now) (h .t) (s .pre .0 .is-length) (i .loop-test .taken) (s .pre .0 .room) (h .inv .0 .elements) (d .pass-by .last .1 .1 .0) (d .pass-by .result) (d .pass-by .ensures) in (
       record {
-        elements = column-more (s .args .plan .columns) m (s .args .plan .w) (s .args .plan .h) (h .x) (s .args .t .now) (h .t) (s .pre .is-length) (i .loop-test .taken) (s .pre .room) (h .inv .0 .elements) (d .inv-1d .last .1 .0) (d .inv-1d .result) (d .inv-1d .ensures);
+        elements = column-more (s .args .engine) (s .args .plan .columns) m (s .args .plan .w) (s .args .plan .h) (h .x) (s .args .t .now) (h .t) (s .pre .0 .is-length) (i .loop-test .taken) (s .pre .0 .room) (h .inv .0 .elements) (d .pass-by .last .1 .1 .0) (d .pass-by .result) (d .pass-by .ensures);
         marked = (λ k. h .inv .0 .marked k || mark k) ∙ sym (any-snoc (h .x) f) ∙ ap (λ (k : ℕ). any k f) (sym (add-one (h .x)));
       },
       omega arith,
@@ -61,12 +63,12 @@ returns c =
     let h = c .before .loop in
     let s = c .before .before in
     let all : h .x ≡ s .args .plan .w = omega arith in
-    subst (λ (z : ℤ). ColumnsAre (s .args .plan .columns) (natAbs z) (s .args .plan .w) (s .args .plan .h) (s .args .t .now) (s .args .plan .w) (h .t) (h .mark)) (toZ-ofZ w32 (s .args .min) (s .fits .min))
-    (subst (λ (k : ℕ). ColumnsAre (s .args .plan .columns) (natAbs (toZ w32 (ofZ w32 (s .args .min)))) (s .args .plan .w) (s .args .plan .h) (s .args .t .now) k (h .t) (h .mark)) all (h .inv .0))
+    subst (λ (z : ℤ). ColumnsBy (s .args .engine) (s .args .plan .columns) (natAbs z) (s .args .plan .w) (s .args .plan .h) (s .args .t .now) (s .args .plan .w) (h .t) (h .mark)) (toZ-ofZ w32 (s .args .min) (s .fits .min))
+    (subst (λ (k : ℕ). ColumnsBy (s .args .engine) (s .args .plan .columns) (natAbs (toZ w32 (ofZ w32 (s .args .min)))) (s .args .plan .w) (s .args .plan .h) (s .args .t .now) k (h .t) (h .mark)) all (h .inv .0))
 
 -- column x is in the slice
 here : (c : tie.In-loop Inv-loop μ-loop) → c .before .loop .x < 1024
-here c = let s = c .before .before in omega (arith, by-row (s .args .plan .w) (s .args .plan .h) 0 (c .before .loop .x) (not-0 (s .args .plan .h) (s .pre .is-length)) (c .loop-test .taken), s .pre .room)
+here c = let s = c .before .before in omega (arith, by-row (s .args .plan .w) (s .args .plan .h) 0 (c .before .loop .x) (not-0 (s .args .plan .h) (s .pre .0 .is-length)) (c .loop-test .taken), s .pre .0 .room)
 
 pub columns-by-line-spec : {M : Type 1} → statement M
 columns-by-line-spec =
@@ -79,9 +81,9 @@ columns-by-line-spec =
     (λ c. omega (arith, here c, c .before .loop .inv .0 .elements .long))
     (λ c. omega (arith, here c, c .before .loop .inv .0 .elements .long))
     (λ c. le-refl _)
-    inv-1d-requires
+    pass-by-requires
     (λ c. omega arith)
     (λ c. omega arith)
     loop-again
-    (λ c. c .before .loop .inv .0 .elements .long ∙ sym (c .before .before .pre .long))
+    (λ c. c .before .loop .inv .0 .elements .long ∙ sym (c .before .before .pre .0 .long))
     returns)

@@ -37,7 +37,7 @@ between-requires : tie.Need-between-requires Inv-loop μ-loop
 between-requires c κs =
     let h = c .before .before in
     let s = h .before in
-    (subst⁻¹ (λ (z : ℤ). natAbs z ≤ 16777216) (held c) (s .pre .small (h .loop .i)), s .pre .shift-small)
+    (subst⁻¹ (λ (z : ℤ). natAbs z ≤ 1073741823) (held c) (s .pre .small (h .loop .i)), s .pre .shift-small)
 
 loop-holds : tie.Need-loop-holds Inv-loop μ-loop
 unfolding fill

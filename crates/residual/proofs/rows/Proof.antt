@@ -29,9 +29,11 @@ still : tie.Need-rows-by-line-requires-2
 still c κs =
     let q = c .before .before .before in
     let s = q .before .before .before .before .before .before in
-    let same = q .quick-rows .ensures .0 .same (c .before .if1 .left) in
-    to2 (λ lo hi. RowsLoad (s .args .plan) (s .args .coeff .now) (s .args .r) lo hi (q .quick-rows .last .0)) (s .fits .min) (s .fits .max)
-    (subst⁻¹ (RowsLoad (s .args .plan) (s .args .coeff .now) (s .args .r) (s .args .min) (s .args .max)) same (s .pre .0))
+    let same = q .quick-rows .ensures .0 .same (c .before .if1 .left) in (
+      to2 (λ lo hi. RowsLoad (s .args .plan) (s .args .coeff .now) (s .args .r) lo hi (q .quick-rows .last .0)) (s .fits .min) (s .fits .max)
+          (subst⁻¹ (RowsLoad (s .args .plan) (s .args .coeff .now) (s .args .r) (s .args .min) (s .args .max)) same (s .pre .0)),
+      tt,
+    )
 
 pub rows-spec : {M : Type 1} → statement M
 rows-spec =

@@ -10,11 +10,14 @@ use lib.IntN.{ℤ, natAbs}
 use lib.ListN.{length}
 use Rattle.whole.specs.Lists.{at}
 use Rattle.itx_1d.specs.declared.Kind.the-variants.{Wht}
+use Rattle.av1.specs.Sides.{side}
+use Rattle.residual.specs.declared.Engine.the-variants.{First}
+use Rattle.residual.specs.Blocks.{passed-by}
 use Rattle.residual.specs.Inner.{wht-plan, loaded, row-made, HoldsIn}
 use Rattle.residual.proofs.Fills.{fill-length}
 use Rattle.residual.proofs.Places.{by-column}
 use Rattle.residual.proofs.Small.{entering-small}
-use Rattle.residual.proofs.Steps.{row-passable, row-more}
+use Rattle.residual.proofs.Steps.{as-made, row-passable, row-more}
 use Rattle.residual.proofs.rows_of_wht.Statement.{statement}
 use Rattle.residual.proofs.rows_of_wht.Tie as tie
 
@@ -70,7 +73,7 @@ loop-again c =
     let d = c .before in
     let l = d .before .before .before in
     let h = turn l .before .loop in
-    (row-more 4 (y l) (made (start l .args .coeff .now)) (e l) (h .t) (l .load-row .last .0) refl (room l) (h .inv .0) (l .load-row .ensures) Wht 0 (d .wht4 .last .0) false (d .wht4 .ensures) (λ x. refl), omega (arith, turn l .loop-test .taken))
+    (row-more 4 (y l) (made (start l .args .coeff .now)) (e l) (h .t) (l .load-row .last .0) refl (room l) (h .inv .0) (l .load-row .ensures) (passed-by First Wht (side 4) 0) (d .wht4 .last .0) false (as-made (d .wht4 .ensures)) (λ x. refl), omega (arith, turn l .loop-test .taken))
 
 returns : tie.Need-returns Inv-loop μ-loop
 returns c =
