@@ -28,14 +28,15 @@ use Rattle.levels.specs.Plans.{among, shift-0, shift-1, shift-2, shift-of, Size
 use Rattle.levels.proofs.Sizes.{plan-of, plan-sided}
 use Rattle.levels.proofs.Types.{by-types}
 use Rattle.strided.specs.Planes.{in-pixels, rows-outside, lent}
-use Rattle.residual.specs.Blocks.{way}
+use Rattle.residual.specs.declared.Engine.{Engine}
+use Rattle.residual.specs.Blocks.{way-by}
 use Rattle.residual.specs.Inner.{Sized}
 use Rattle.residual.proofs.Ends.{row-reach, size}
 use Rattle.itx.specs.declared.Refusal.{Refusal}
-use Rattle.itx.specs.Calls.{Block, Call, Outcome, Meets, verdict, outcome, outcome-of, short, live-rows, by-shortcut, by-passes}
+use Rattle.itx.specs.Calls.{Block, Call, Outcome, Leaves, verdict, outcome-of, short, live-rows, by-shortcut, by-passes}
 use Rattle.itx.specs.Demands.{Accepted}
 use Rattle.itx.specs.Answers.{number, place, block, Ready, Passed, Shortened}
-use Rattle.itx.proofs.Sameness.{opened}
+use Rattle.itx.proofs.Verdicts.{accepting}
 
 -- ---- a plan's kinds fit its sides
 
@@ -109,14 +110,17 @@ sized w h type p e =
 
 -- ---- a block as a call is given it
 
-module _ (call : Call) (w h type depth offset : ℕ) (bytes : ℤ) (ps : List ℕ) (c : List ℤ) where
+module _ (e : Engine) (call : Call) (w h type depth offset : ℕ) (bytes : ℤ) (ps : List ℕ) (c : List ℤ) where
   abbrev given : Block
   given = block w h type depth c (lent ps offset bytes)
 
-  pub refusal-meets : (r : Refusal) → verdict call given ≡ refuse (number r) (place r) → Meets call given (Rattle.itx_1d.specs.Calls.refusal (number r) (place r)) ps c
-  unfolding outcome
-  refusal-meets r e =
-      let o = ap (outcome-of way call given) (sym e) in
+  -- what the call leaves by the engine
+  abbrev pub left : Outcome
+  left = outcome-of (way-by e) call given (verdict call given)
+
+  pub refusal-left : (r : Refusal) → verdict call given ≡ refuse (number r) (place r) → Leaves left (Rattle.itx_1d.specs.Calls.refusal (number r) (place r)) ps c
+  refusal-left r f =
+      let o = ap (outcome-of (way-by e) call given) (sym f) in
       record { answer-is = ap (λ (o : Outcome). o .answer) o; pixels-are = ap (λ (o : Outcome). o .pixels) o; coefs-are = ap (λ (o : Outcome). o .coefs) o }
 
   module _ (p : Plan) (d : Depth) (a : Accepted call given p d) (stride : ℤ) (turned : stride ≡ in-pixels bytes) where
@@ -131,14 +135,14 @@ module _ (call : Call) (w h type depth offset : ℕ) (bytes : ℤ) (ps : List �
     }
 
     abbrev long : ℕ → Outcome
-    long r = by-passes given p d (way p d) r
+    long r = by-passes given p d (way-by e p d) r
 
-    taken : (t : Bool) → short call p ≡ t → outcome call given ≡ cond t (by-shortcut given p d) (long (live-rows call p))
-    taken t e = opened given p d call a ∙ ap (λ (t : Bool). cond t (by-shortcut given p d) (long (live-rows call p))) e
+    taken : (t : Bool) → short call p ≡ t → left ≡ cond t (by-shortcut given p d) (long (live-rows call p))
+    taken t f = ap (outcome-of (way-by e) call given) (accepting call given p d a) ∙ ap (λ (t : Bool). cond t (by-shortcut given p d) (long (live-rows call p))) f
 
     -- the long way with r rows, where that leaves the same as with the call's
-    pub passes-meet : (r : ℕ) {mark : Bool} {ps′ : List ℕ} {c′ : List ℤ} → short call p ≡ false → long r ≡ long (live-rows call p) → Passed p d offset stride r ps c mark ps′ c′ → Meets call given (acceptance mark) ps′ c′
-    passes-meet r s q m =
+    pub passes-left : (r : ℕ) {mark : Bool} {ps′ : List ℕ} {c′ : List ℤ} → short call p ≡ false → long r ≡ long (live-rows call p) → Passed e p d offset stride r ps c mark ps′ c′ → Leaves left (acceptance mark) ps′ c′
+    passes-left r s q m =
         let o = q ∙ sym (taken false s) in
         record {
           answer-is = ap acceptance (m .mark-is) ∙ ap (λ (o : Outcome). o .answer) o;
@@ -146,7 +150,7 @@ module _ (call : Call) (w h type depth offset : ℕ) (bytes : ℤ) (ps : List �
           coefs-are = m .coefs-are ∙ ap (λ (o : Outcome). o .coefs) o;
         }
 
-    pub shortcut-meets : {ps′ : List ℕ} {c′ : List ℤ} → short call p ≡ true → Shortened p d offset stride ps c ps′ c′ → Meets call given (acceptance false) ps′ c′
-    shortcut-meets s m =
+    pub shortcut-left : {ps′ : List ℕ} {c′ : List ℤ} → short call p ≡ true → Shortened p d offset stride ps c ps′ c′ → Leaves left (acceptance false) ps′ c′
+    shortcut-left s m =
         let o = sym (taken true s) in
         record { answer-is = ap (λ (o : Outcome). o .answer) o; pixels-are = m .added .pixels-are bytes (sym turned) ∙ ap (λ (o : Outcome). o .pixels) o; coefs-are = m .coefs-are ∙ ap (λ (o : Outcome). o .coefs) o }

@@ -32,7 +32,7 @@ use Rattle.residual.specs.Blocks.{entered, row, middle, column, residual, marke
 -- ---- number by number
 
 module _ (p : Plan) (d : Depth) where
-  enter-av1 : (v : ℤ) → way p d .enter v ≡ av1-way p d .enter v
+  pub enter-av1 : (v : ℤ) → way p d .enter v ≡ av1-way p d .enter v
   unfolding Rattle.residual.specs.Blocks.prescale
   enter-av1 v = ap (λ (z : ℤ). if-wht (p .rows) (v >> 2) (cond (eqb (p .w * 2) (p .h) || eqb (p .h * 2) (p .w)) z v)) (sym (by-181 v))
 
@@ -41,7 +41,7 @@ module _ (p : Plan) (d : Depth) where
   held-av1 Ten v = refl
   held-av1 Twelve v = refl
 
-  between-av1 : (v : ℤ) → way p d .between v ≡ av1-way p d .between v
+  pub between-av1 : (v : ℤ) → way p d .between v ≡ av1-way p d .between v
   between-av1 v = ap (if-wht (p .rows) v) (held-av1 d (round2 v (p .shift)))
 
 -- ---- the block, with r live rows

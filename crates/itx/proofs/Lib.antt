@@ -13,3 +13,4 @@ pub mod Chain
 pub mod Painting
 pub mod Accepted
 pub mod Unique
+pub mod Second

@@ -14,17 +14,19 @@ use Rattle.whole.specs.Lists.{at}
 use Rattle.whole.proofs.Clips.{clip-inside}
 use Rattle.whole.proofs.Counts.{tab-ext, any-ext, any-upto}
 use Rattle.whole.proofs.Ranges.{zero-inside}
-use Rattle.av1.specs.Sides.{side}
+use Rattle.av1.specs.Sides.{Side, side, len}
 use Rattle.itx_1d.specs.declared.Kind.{Kind}
-use Rattle.itx_1d.specs.Passes.{Passed, pass}
+use Rattle.itx_1d.specs.Passes.{Passed}
 use Rattle.itx_1d.proofs.Manners.{split}
-use Rattle.itx_1d.proofs.PassLaws.{zeros, zero-pass, zero-unmarked}
+use Rattle.itx_1d.proofs.PassLaws.{zeros, zero-pass, zero-unmarked, pass-av1}
 use Rattle.bitdepth.specs.declared.Depth.{Depth}
 use Rattle.bitdepth.specs.Depths.{row-range, column-range}
 use Rattle.levels.specs.declared.Plan.{Plan}
 use Rattle.levels.proofs.Sizes.{Sided}
 use Rattle.coefs.specs.Coefs.{Covers}
-use Rattle.residual.specs.Blocks.{Way, entered, row, middle, column, residual, marked, prescale, if-wht, way}
+use Rattle.residual.specs.declared.Engine.{Engine}
+use Rattle.residual.specs.declared.Engine.the-variants.{First, Spec}
+use Rattle.residual.specs.Blocks.{Way, entered, row, middle, column, residual, marked, prescale, if-wht, passed-by, way-by}
 
 -- zero stays zero, up to the column pass
 pub record Quiet (𝓦 : Way) : Type 0 where
@@ -91,10 +93,21 @@ clip-zero s m = ap (λ (z : ℤ). clip z (low m) (high m)) (round-zero s) ∙ cl
 between-zero : (k : Kind) (s m : ℕ) → if-wht k (pos 0) (clip (round2 (pos 0) s) (low m) (high m)) ≡ pos 0
 between-zero k s m = split (λ z. z ≡ pos 0) k (pos 0) (clip (round2 (pos 0) s) (low m) (high m)) (λ t. refl) (clip-zero s m)
 
-pub quiet : (p : Plan) (d : Depth) → Sided (p .w) → Quiet (way p d)
-quiet p d e = record {
+pub quiet : (e : Engine) (p : Plan) (d : Depth) → Sided (p .w) → Quiet (way-by e p d)
+quiet e p d s = record {
   enter-zero = enter-zero (p .rows) (p .w) (p .h);
-  row-zero = λ x. subst (λ (w : ℕ). at (pass (p .rows) (side (p .w)) (row-range d) (zeros w) .values) x ≡ pos 0) e (zero-pass (side (p .w)) (row-range d) (p .rows) x);
-  row-unmarked = subst (λ (w : ℕ). pass (p .rows) (side (p .w)) (row-range d) (zeros w) .mark ≡ false) e (zero-unmarked (side (p .w)) (row-range d) (p .rows));
+  row-zero = λ x. subst (λ (w : ℕ). at (passed-by e (p .rows) (side (p .w)) (row-range d) (zeros w) .values) x ≡ pos 0) s (row-zero e x);
+  row-unmarked = subst (λ (w : ℕ). passed-by e (p .rows) (side (p .w)) (row-range d) (zeros w) .mark ≡ false) s (row-unmarked e);
   between-zero = between-zero (p .rows) (p .shift) (column-range d);
 }
+  where
+    n : Side
+    n = side (p .w)
+
+    row-zero : (e : Engine) (x : ℕ) → at (passed-by e (p .rows) n (row-range d) (zeros (len n)) .values) x ≡ pos 0
+    row-zero First x = zero-pass n (row-range d) (p .rows) x
+    row-zero Spec x = ap (λ (l : List ℤ). at l x) (sym (pass-av1 n (row-range d) (zeros (len n)) (p .rows) (zero-unmarked n (row-range d) (p .rows)))) ∙ zero-pass n (row-range d) (p .rows) x
+
+    row-unmarked : (e : Engine) → passed-by e (p .rows) n (row-range d) (zeros (len n)) .mark ≡ false
+    row-unmarked First = zero-unmarked n (row-range d) (p .rows)
+    row-unmarked Spec = refl

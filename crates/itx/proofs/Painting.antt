@@ -20,7 +20,8 @@ use Rattle.strided.specs.Planes.{lent, in-pixels, rows-outside}
 use Rattle.pixels.specs.Adds.{add-pixel, add-rows}
 use Rattle.pixels.specs.Inner.{left, Adding}
 use Rattle.pixels.proofs.Pixels.{rows-ext}
-use Rattle.residual.specs.Blocks.{way, residual}
+use Rattle.residual.specs.declared.Engine.{Engine}
+use Rattle.residual.specs.Blocks.{way-by, residual}
 use Rattle.residual.specs.Inner.{Sized, ResolvedIn, wht-plan}
 use Rattle.residual.proofs.Places.{by-row}
 use Rattle.itx.specs.Answers.{Ready, Passed}
@@ -30,7 +31,7 @@ zeros-at zero i = refl
 zeros-at (suc n) zero = refl
 zeros-at (suc n) (suc i) = zeros-at n i
 
-module _ {p : Plan} {d : Depth} {offset : ℕ} {stride : ℤ} {r : ℕ} {ps : List ℕ} {c : List ℤ} {n : ℕ} {t : List ℤ} {mark : Bool} (m : ResolvedIn n p d c r t mark) where
+module _ {e : Engine} {p : Plan} {d : Depth} {offset : ℕ} {stride : ℤ} {r : ℕ} {ps : List ℕ} {c : List ℤ} {n : ℕ} {t : List ℤ} {mark : Bool} (m : ResolvedIn n e p d c r t mark) where
   pub adding : Sized p → p .h * p .w ≤ n → rows-outside (length ps) offset stride (p .w) (p .h) ≡ false → Adding offset stride (p .w) (p .w) (p .h) ps t
   adding k room inside =
       record {
@@ -42,15 +43,15 @@ module _ {p : Plan} {d : Depth} {offset : ℕ} {stride : ℤ} {r : ℕ} {ps : Li
 
   pub painted : {top : ℕ} {ps′ : List ℕ} {c′ : List ℤ} → top ≡ maximum d
       → ((bytes : ℤ) → in-pixels bytes ≡ stride → ps′ ≡ add-rows (lent ps offset bytes) top (λ y x. left (p .columns) (at t (y * p .w + x))) (p .w) (p .h))
-      → c′ ≡ replicate (p .w * p .h) (pos 0) ++ drop (p .w * p .h) c → Passed p d offset stride r ps c mark ps′ c′
+      → c′ ≡ replicate (p .w * p .h) (pos 0) ++ drop (p .w * p .h) c → Passed e p d offset stride r ps c mark ps′ c′
   painted top-is added cleared =
       let v : ℕ → ℕ → ℤ = λ y x. left (p .columns) (at t (y * p .w + x)) in
-      let u = residual (way p d) c r in
+      let u = residual (way-by e p d) c r in
       record {
         mark-is = m .mark-is;
         added = record {
-          pixels-are = λ bytes e.
-              added bytes e
+          pixels-are = λ bytes q.
+              added bytes q
               ∙ ap (λ (q : ℕ). add-rows (lent ps offset bytes) q v (p .w) (p .h)) top-is
               ∙ rows-ext (lent ps offset bytes) (maximum d) v u (p .w) (p .h) (λ y x l b. ap (add-pixel (maximum d) _) (ap (left (p .columns)) (m .elements y x l b)));
         };

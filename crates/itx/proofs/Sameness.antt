@@ -18,7 +18,9 @@ use Rattle.bitdepth.specs.declared.Depth.{Depth}
 use Rattle.bitdepth.specs.Depths.{depth, maximum}
 use Rattle.levels.specs.declared.Plan.{Plan}
 use Rattle.levels.proofs.Sizes.{Sided, side-bounds, plan-sided}
-use Rattle.residual.specs.Blocks.{way, residual}
+use Rattle.residual.specs.declared.Engine.{Engine}
+use Rattle.residual.specs.declared.Engine.the-variants.{First}
+use Rattle.residual.specs.Blocks.{way, way-by, residual}
 use Rattle.coefs.specs.Coefs.{nonzero}
 use Rattle.pixels.specs.Adds.{add-pixel}
 use Rattle.itx.specs.Calls.{Block, Call, plain, live, bad-rows, stray, checks, verdict, Outcome, short, live-rows, by-shortcut, by-passes, outcome-of, outcome}
@@ -68,16 +70,20 @@ live-inside (live r) b p d a = leb-true r (p .h) (second-true (leb 1 r) (leb r (
 -- ---- the theorems, for a block that the plain call accepts
 
 module _ (b : Block) (p : Plan) (d : Depth) where
-  pub rows-whole : (r : ℕ) → Sided (p .w) → r ≤ p .h → Covers (p .w) (p .h) (b .coefs) r → by-passes b p d (way p d) r ≡ whole b p d
-  rows-whole r s l k =
-      let 𝓦 = way p d in
+  -- by either engine
+  pub rows-all : (e : Engine) (r : ℕ) → Sided (p .w) → r ≤ p .h → Covers (p .w) (p .h) (b .coefs) r → by-passes b p d (way-by e p d) r ≡ by-passes b p d (way-by e p d) (p .h)
+  rows-all e r s l k =
+      let 𝓦 = way-by e p d in
       let n = p .w * p .h in
       let rs = residual 𝓦 (b .coefs) in
       λ i. record {
-        answer = acceptance (marked-same 𝓦 (quiet p d s) (b .coefs) r l k i);
-        pixels = rows-ext (b .plane) (maximum d) (rs r) (rs (p .h)) (p .w) (p .h) (λ y x g f. ap (add-pixel (maximum d) _) (residual-same 𝓦 (quiet p d s) (b .coefs) r l k y x)) i;
+        answer = acceptance (marked-same 𝓦 (quiet e p d s) (b .coefs) r l k i);
+        pixels = rows-ext (b .plane) (maximum d) (rs r) (rs (p .h)) (p .w) (p .h) (λ y x g f. ap (add-pixel (maximum d) _) (residual-same 𝓦 (quiet e p d s) (b .coefs) r l k y x)) i;
         coefs = replicate n (pos 0) ++ drop n (b .coefs);
       }
+
+  pub rows-whole : (r : ℕ) → Sided (p .w) → r ≤ p .h → Covers (p .w) (p .h) (b .coefs) r → by-passes b p d (way p d) r ≡ whole b p d
+  rows-whole = rows-all First
 
   module _ (call : Call) (a : Accepted call b p d) where
     pub sides : Sided (p .w) × Sided (p .h)

@@ -12,6 +12,7 @@ use Rattle.itx.specs.declared.Refusal.{Refusal}
 use Rattle.itx.specs.declared.Refusal.the-variants.{NoSize, NoType, NoDepth, NegativeEob, NoSuchRows, FewCoefficients, BadStride, RowOutside, OutOfRange, Stray}
 use Rattle.itx.specs.Answers.{number, place, answer-of}
 use Rattle.itx.specs.Calls.{Block, Call, Meets}
+use Rattle.itx.specs.Spec.{SpecMeets}
 use Rattle.itx.proofs.Outcomes.{one-outcome}
 
 -- the refusal, and the answer, that the table's numbers stand for
@@ -63,3 +64,7 @@ back-is (Refused r) = (λ i. cond (not-zero r i) (Done false) (Refused (refusal-
 
 pub one-answer : {call : Call} {b : Block} {r r′ : Answer} {ps ps′ : List ℕ} {c c′ : List ℤ} → Meets call b (answer-of r) ps c → Meets call b (answer-of r′) ps′ c′ → (r ≡ r′) × (ps ≡ ps′) × (c ≡ c′)
 one-answer {r = r} {r′ = r′} m m′ = let o = one-outcome m m′ in (sym (back-is r) ∙ ap back (o .0) ∙ back-is r′, o .1, o .2)
+
+-- nor that of the second engine
+pub one-spec-answer : {call : Call} {b : Block} {r r′ : Answer} {ps ps′ : List ℕ} {c c′ : List ℤ} → SpecMeets call b (answer-of r) ps c → SpecMeets call b (answer-of r′) ps′ c′ → (r ≡ r′) × (ps ≡ ps′) × (c ≡ c′)
+one-spec-answer {r = r} {r′ = r′} m m′ = (sym (back-is r) ∙ ap back (m .answer-is ∙ sym (m′ .answer-is)) ∙ back-is r′, m .pixels-are ∙ sym (m′ .pixels-are), m .coefs-are ∙ sym (m′ .coefs-are))

@@ -14,10 +14,11 @@ use Rattle.coefs.specs.Coefs.{in-dead-row}
 use Rattle.levels.specs.declared.Plan.{Plan}
 use Rattle.strided.specs.Planes.{Plane, in-pixels, bad-stride, rows-outside, lent}
 use Rattle.pixels.specs.Adds.{add-rows}
-use Rattle.residual.specs.Blocks.{way, residual, marked, shortcut}
-use Rattle.residual.specs.Inner.{Sized, Coefs}
+use Rattle.residual.specs.declared.Engine.{Engine}
+use Rattle.residual.specs.Blocks.{way-by, residual, marked, shortcut}
+use Rattle.residual.specs.Inner.{Sized, Coefs, Served}
 use Rattle.itx_1d.specs.Calls as Passes
-use Rattle.itx.specs.Calls.{Block}
+use Rattle.itx.specs.Calls.{Block, with-adst}
 use Rattle.itx.specs.declared.Answer.{Answer}
 use Rattle.itx.specs.declared.Answer.the-variants.{Done, Refused}
 use Rattle.itx.specs.declared.Refusal.{Refusal}
@@ -116,11 +117,22 @@ pub record Ready (p : Plan) (offset : ℕ) (stride : ℤ) (ps : List ℕ) (c : L
 pub record Added (p : Plan) (d : Depth) (offset : ℕ) (stride : ℤ) (ps : List ℕ) (v : ℕ → ℕ → ℤ) (ps′ : List ℕ) : Type 0 where
   pub pixels-are : (bytes : ℤ) → in-pixels bytes ≡ stride → ps′ ≡ add-rows (lent ps offset bytes) (maximum d) v (p .w) (p .h)
 
-pub record Passed (p : Plan) (d : Depth) (offset : ℕ) (stride : ℤ) (r : ℕ) (ps : List ℕ) (c : List ℤ) (mark : Bool) (ps′ : List ℕ) (c′ : List ℤ) : Type 0 where
-  pub mark-is : mark ≡ marked (way p d) c r
-  pub added : Added p d offset stride ps (residual (way p d) c r) ps′
+pub record Passed (e : Engine) (p : Plan) (d : Depth) (offset : ℕ) (stride : ℤ) (r : ℕ) (ps : List ℕ) (c : List ℤ) (mark : Bool) (ps′ : List ℕ) (c′ : List ℤ) : Type 0 where
+  pub mark-is : mark ≡ marked (way-by e p d) c r
+  pub added : Added p d offset stride ps (residual (way-by e p d) c r) ps′
   pub coefs-are : c′ ≡ replicate (p .w * p .h) (pos 0) ++ drop (p .w * p .h) c
 
 pub record Shortened (p : Plan) (d : Depth) (offset : ℕ) (stride : ℤ) (ps : List ℕ) (c : List ℤ) (ps′ : List ℕ) (c′ : List ℤ) : Type 0 where
   pub added : Added p d offset stride ps (λ y x. shortcut p (at c 0)) ps′
   pub coefs-are : c′ ≡ set c 0 (pos 0)
+
+-- ---- the two engines
+
+-- a plan was made, and it has an ADST
+abbrev pub adst-planned : Check Plan → Bool
+adst-planned (accept p) = with-adst p
+adst-planned (refuse n i) = false
+
+-- what the calls ask of an engine: that it has the kinds of the plan, if one was made
+pub record Allowed (e : Engine) (c : Check Plan) : Type 0 where
+  pub served : (p : Plan) → c ≡ accept p → Served e p

@@ -1,5 +1,5 @@
 -- The two public calls: document 01, "Numbers of refusal", and steps 6 and 7 of "Two-dimensional transform".
-use mathlib.Core.Bool.{Bool, true, false, cond, not, _&&_}
+use mathlib.Core.Bool.{Bool, true, false, cond, not, _&&_, _||_}
 use mathlib.Core.List.{List, _++_}
 use mathlib.Core.Path.{_≡_}
 use Prim.Native.Nat.{ℕ, zero, suc, _*_}
@@ -10,7 +10,7 @@ use lib.Signed.{nonNeg}
 use Rattle.whole.specs.Numbers.{outside, low, high}
 use Rattle.whole.specs.Lists.{at, first}
 use Rattle.whole.specs.Checks.{Check, accept, refuse, then, unless, unless-at}
-use Rattle.itx_1d.specs.Manners.{is-dct}
+use Rattle.itx_1d.specs.Manners.{is-dct, is-adst}
 use Rattle.itx_1d.specs.Calls.{Answer, refusal, acceptance}
 use Rattle.bitdepth.specs.declared.Depth.{Depth}
 use Rattle.bitdepth.specs.Depths.{depth, row-range, maximum}
@@ -50,6 +50,9 @@ abbrev pub stray : Call → ℕ → List ℤ → ℕ → Bool
 stray (plain eob) h c i = false
 stray (live r) h c i = in-dead-row r h c i
 
+abbrev pub with-adst : Plan → Bool
+with-adst p = is-adst (p .rows) || is-adst (p .columns)
+
 module _ (call : Call) (b : Block) where
   -- numbers 4 to 10
   abbrev pub checks : Plan → Depth → Check (Plan × Depth)
@@ -69,6 +72,10 @@ module _ (call : Call) (b : Block) where
   -- "Checked in this order; the first that applies is answered, and none otherwise."
   abbrev pub verdict : Check (Plan × Depth)
   verdict = then (plan (b .w) (b .h) (b .type)) (λ p. then (depth (b .depth)) (checks p))
+
+  -- the same for the second engine, which "still refuses them by 2": a type with an ADST (E9)
+  abbrev pub spec-verdict : Check (Plan × Depth)
+  spec-verdict = then (plan (b .w) (b .h) (b .type)) (λ p. unless (with-adst p) 2 (then (depth (b .depth)) (checks p)))
 
 -- ---- what is left
 
@@ -115,3 +122,9 @@ pub record Meets (call : Call) (b : Block) (answer : Answer) (pixels : List ℕ)
   pub answer-is : answer ≡ outcome call b .answer
   pub pixels-are : pixels ≡ outcome call b .pixels
   pub coefs-are : coefs ≡ outcome call b .coefs
+
+-- what is answered and left is o
+pub record Leaves (o : Outcome) (answer : Answer) (pixels : List ℕ) (coefs : List ℤ) : Type 0 where
+  pub answer-is : answer ≡ o .answer
+  pub pixels-are : pixels ≡ o .pixels
+  pub coefs-are : coefs ≡ o .coefs

@@ -4,3 +4,4 @@ pub mod Av1
 pub mod Answers
 pub mod Demands
 pub mod Known
+pub mod Spec

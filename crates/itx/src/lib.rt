@@ -11,10 +11,13 @@ ghost use lib.Signed.{nonNeg};
 ghost use Rattle.whole.specs.Checks.{accept, then, unless};
 ghost use Rattle.bitdepth.specs.Depths as Depths;
 ghost use Rattle.levels.specs.Plans as Plans;
-ghost use Rattle.residual.specs.Inner.{wht-plan};
+ghost use Rattle.itx_1d.specs.Manners.{is-adst};
+ghost use Rattle.residual.specs.Inner.{wht-plan, Served};
+ghost use Rattle.residual.specs.Blocks.{way-by};
+ghost use Rattle.itx.specs.Spec as Spec;
 ghost use Rattle.itx.specs.Calls as Calls;
 ghost use Rattle.itx.specs.Answers as Answers;
-ghost use Rattle.itx.specs.Answers.{answer-of, verdict-of, placed-of, Turned, Within32, Enough, RowsIn, Handed, plane-check, range-check, stray-check, block, Ready, Passed, Shortened};
+ghost use Rattle.itx.specs.Answers.{answer-of, verdict-of, placed-of, Turned, Within32, Enough, RowsIn, Handed, plane-check, range-check, stray-check, block, Ready, Passed, Shortened, Allowed, adst-planned};
 use bitdepth::Depth;
 use bitdepth::DepthCheck;
 use bitdepth::Range;
@@ -28,6 +31,7 @@ use levels::Decision;
 use levels::Plan;
 use pixels::add_block;
 use pixels::shift_block;
+use residual::Engine;
 use residual::resolve;
 use residual::resolve_wht;
 use residual::shortcut;
@@ -229,7 +233,7 @@ fn by_wht(
     r: usize,
 )
     requires { ⌜ Ready (wht-plan 0) offset (stride .0) (now dst) (now coeff) × (r ≤ 4) ⌝ }
-    ensures { λ _. ⌜ ((shift : ℕ) → Passed (wht-plan shift) depth offset (stride .0) r (now (dst .entry)) (now (coeff .entry)) false (now (dst .exit)) (now (coeff .exit))) ⌝ }
+    ensures { λ _. ⌜ ((shift : ℕ) → Passed Engine.First (wht-plan shift) depth offset (stride .0) r (now (dst .entry)) (now (coeff .entry)) false (now (dst .exit)) (now (coeff .exit))) ⌝ }
 {
     let top = depth.maximum();
     let mut t = [0i32; 16];
@@ -238,8 +242,9 @@ fn by_wht(
     clear(&mut *coeff, 16);
 }
 
-// The long way: steps 1 to 7 with r live rows.
+// The long way: steps 1 to 7 with r live rows, by the passes of an engine.
 fn by_passes(
+    engine: Engine,
     dst: &mut [u16],
     offset: u32,
     stride: PixelStride,
@@ -248,20 +253,22 @@ fn by_passes(
     depth: Depth,
     r: usize,
 ) -> bool
-    requires { ⌜ Ready plan offset (stride .0) (now dst) (now coeff) × (r ≤ plan .h) ⌝ }
-    ensures { λ m. ⌜ Passed plan depth offset (stride .0) r (now (dst .entry)) (now (coeff .entry)) m (now (dst .exit)) (now (coeff .exit)) ⌝ }
+    requires { ⌜ Ready plan offset (stride .0) (now dst) (now coeff) × (r ≤ plan .h) × Served engine plan ⌝ }
+    ensures { λ m. ⌜ Passed engine plan depth offset (stride .0) r (now (dst .entry)) (now (coeff .entry)) m (now (dst .exit)) (now (coeff .exit)) ⌝ }
 {
     let w = plan.w;
     let h = plan.h;
     let rows = plan.rows;
     let columns = plan.columns;
     if let Kind::Wht = rows {
-        by_wht(dst, offset, stride, coeff, depth, r);
-        return false;
+        if let Engine::First = engine {
+            by_wht(dst, offset, stride, coeff, depth, r);
+            return false;
+        }
     }
     let top = depth.maximum();
     let mut t = [0i32; 1024];
-    let mark = resolve(&mut t, plan, depth, &*coeff, r);
+    let mark = resolve(engine, &mut t, plan, depth, &*coeff, r);
     add_block(&mut *dst, offset, stride, &t, w, columns, w, h, top);
     clear(&mut *coeff, w * h);
     mark
@@ -349,6 +356,64 @@ fn by_shortcut(
     coeff[0] = 0;
 }
 
+// The plain call, by an engine.
+fn plain(
+    engine: Engine,
+    dst: &mut [u16],
+    offset: u32,
+    stride: ByteStride,
+    coeff: &mut [i32],
+    eob: i32,
+    w: usize,
+    h: usize,
+    txtp: usize,
+    depth: usize,
+) -> Answer
+    requires { ⌜ Allowed engine (Plans.plan w h txtp) ⌝ }
+    ensures { λ r. ⌜ Calls.Leaves (Calls.outcome-of (way-by engine) (Calls.plain eob) (block w h txtp depth (now (coeff .entry)) (lent (now (dst .entry)) offset (stride .0))) (Calls.verdict (Calls.plain eob) (block w h txtp depth (now (coeff .entry)) (lent (now (dst .entry)) offset (stride .0))))) (answer-of r) (now (dst .exit)) (now (coeff .exit)) ⌝ }
+{
+    let checked = check_plain(dst.len(), offset, stride, &*coeff, eob, w, h, txtp, depth);
+    match checked {
+        Placed::Halt(refusal) => Answer::Refused(refusal),
+        Placed::At(plan, d, pixels) => {
+            if is_short(plan, eob) {
+                by_shortcut(dst, offset, pixels, coeff, plan, d);
+                return Answer::Done(false);
+            }
+            // Rows that are zero are passed over: that changes nothing, by demand 3.
+            let r = live_rows(&*coeff, plan.w, plan.h);
+            let mark = by_passes(engine, dst, offset, pixels, coeff, plan, d, r);
+            Answer::Done(mark)
+        }
+    }
+}
+
+// The live-row call, by an engine.
+fn live(
+    engine: Engine,
+    dst: &mut [u16],
+    offset: u32,
+    stride: ByteStride,
+    coeff: &mut [i32],
+    r: usize,
+    w: usize,
+    h: usize,
+    txtp: usize,
+    depth: usize,
+) -> Answer
+    requires { ⌜ Allowed engine (Plans.plan w h txtp) ⌝ }
+    ensures { λ a. ⌜ Calls.Leaves (Calls.outcome-of (way-by engine) (Calls.live r) (block w h txtp depth (now (coeff .entry)) (lent (now (dst .entry)) offset (stride .0))) (Calls.verdict (Calls.live r) (block w h txtp depth (now (coeff .entry)) (lent (now (dst .entry)) offset (stride .0))))) (answer-of a) (now (dst .exit)) (now (coeff .exit)) ⌝ }
+{
+    let checked = check_live(dst.len(), offset, stride, &*coeff, r, w, h, txtp, depth);
+    match checked {
+        Placed::Halt(refusal) => Answer::Refused(refusal),
+        Placed::At(plan, d, pixels) => {
+            let mark = by_passes(engine, dst, offset, pixels, coeff, plan, d, r);
+            Answer::Done(mark)
+        }
+    }
+}
+
 // The plain call.
 pub fn inv_txfm_add(
     dst: &mut [u16],
@@ -363,20 +428,18 @@ pub fn inv_txfm_add(
 ) -> Answer
     ensures { λ r. ⌜ Calls.Meets (Calls.plain eob) (block w h txtp depth (now (coeff .entry)) (lent (now (dst .entry)) offset (stride .0))) (answer-of r) (now (dst .exit)) (now (coeff .exit)) ⌝ }
 {
-    let checked = check_plain(dst.len(), offset, stride, &*coeff, eob, w, h, txtp, depth);
-    match checked {
-        Placed::Halt(refusal) => Answer::Refused(refusal),
-        Placed::At(plan, d, pixels) => {
-            if is_short(plan, eob) {
-                by_shortcut(dst, offset, pixels, coeff, plan, d);
-                return Answer::Done(false);
-            }
-            // Rows that are zero are passed over: that changes nothing, by demand 3.
-            let r = live_rows(&*coeff, plan.w, plan.h);
-            let mark = by_passes(dst, offset, pixels, coeff, plan, d, r);
-            Answer::Done(mark)
-        }
-    }
+    plain(
+        Engine::First,
+        dst,
+        offset,
+        stride,
+        coeff,
+        eob,
+        w,
+        h,
+        txtp,
+        depth,
+    )
 }
 
 // The live-row call.
@@ -393,12 +456,106 @@ pub fn inv_txfm_add_live(
 ) -> Answer
     ensures { λ a. ⌜ Calls.Meets (Calls.live r) (block w h txtp depth (now (coeff .entry)) (lent (now (dst .entry)) offset (stride .0))) (answer-of a) (now (dst .exit)) (now (coeff .exit)) ⌝ }
 {
-    let checked = check_live(dst.len(), offset, stride, &*coeff, r, w, h, txtp, depth);
-    match checked {
-        Placed::Halt(refusal) => Answer::Refused(refusal),
-        Placed::At(plan, d, pixels) => {
-            let mark = by_passes(dst, offset, pixels, coeff, plan, d, r);
-            Answer::Done(mark)
-        }
+    live(
+        Engine::First,
+        dst,
+        offset,
+        stride,
+        coeff,
+        r,
+        w,
+        h,
+        txtp,
+        depth,
+    )
+}
+
+fn is_adst(kind: Kind) -> bool
+    ensures { λ r. ⌜ r ≡ is-adst kind ⌝ }
+{
+    match kind {
+        Kind::Dct => false,
+        Kind::Identity => false,
+        Kind::Wht => false,
+        Kind::Adst => true,
+        Kind::FlipAdst => true,
     }
+}
+
+// The type is one that the second engine refuses.
+fn has_adst(w: usize, h: usize, txtp: usize) -> bool
+    ensures { λ r. ⌜ r ≡ adst-planned (Plans.plan w h txtp) ⌝ }
+{
+    let decision = Plan::of(w, h, txtp);
+    match decision {
+        Decision::Planned(plan) => {
+            let rows = plan.rows;
+            let columns = plan.columns;
+            is_adst(rows) | is_adst(columns)
+        }
+        Decision::NoSize => false,
+        Decision::NoType => false,
+    }
+}
+
+// The plain call of the second engine (E8).
+pub fn spec_inv_txfm_add(
+    dst: &mut [u16],
+    offset: u32,
+    stride: ByteStride,
+    coeff: &mut [i32],
+    eob: i32,
+    w: usize,
+    h: usize,
+    txtp: usize,
+    depth: usize,
+) -> Answer
+    ensures { λ r. ⌜ Spec.SpecMeets (Calls.plain eob) (block w h txtp depth (now (coeff .entry)) (lent (now (dst .entry)) offset (stride .0))) (answer-of r) (now (dst .exit)) (now (coeff .exit)) ⌝ }
+{
+    if has_adst(w, h, txtp) {
+        return Answer::Refused(Refusal::NoType);
+    }
+    plain(
+        Engine::Spec,
+        dst,
+        offset,
+        stride,
+        coeff,
+        eob,
+        w,
+        h,
+        txtp,
+        depth,
+    )
+}
+
+// The live-row call of the second engine.
+pub fn spec_inv_txfm_add_live(
+    dst: &mut [u16],
+    offset: u32,
+    stride: ByteStride,
+    coeff: &mut [i32],
+    r: usize,
+    w: usize,
+    h: usize,
+    txtp: usize,
+    depth: usize,
+) -> Answer
+    ensures { λ a. ⌜ Spec.SpecMeets (Calls.live r) (block w h txtp depth (now (coeff .entry)) (lent (now (dst .entry)) offset (stride .0))) (answer-of a) (now (dst .exit)) (now (coeff .exit)) ⌝ }
+{
+    if has_adst(w, h, txtp) {
+        return Answer::Refused(Refusal::NoType);
+    }
+    live(
+        Engine::Spec,
+        dst,
+        offset,
+        stride,
+        coeff,
+        r,
+        w,
+        h,
+        txtp,
+        depth,
+    )
 }

@@ -7,6 +7,8 @@ use native.Mathlib.Omega.{arith}
 use borrow.Author.Needs.{needs}
 use Rattle.levels.specs.declared.Plan.{Plan}
 use Rattle.levels.proofs.Sizes.{side-bounds}
+use Rattle.residual.specs.declared.Engine.{Engine}
+use Rattle.residual.specs.declared.Engine.the-variants.{First}
 use Rattle.residual.specs.Inner.{wht-plan}
 use Rattle.itx.specs.Answers.{Ready, Passed}
 use Rattle.itx.proofs.Painting.{zeros-at, adding, painted, wht-planned, any-shift}
@@ -22,7 +24,7 @@ module _ (e : tie.After-enum-told) where
 
 by-wht-requires : tie.Need-by-wht-requires
 by-wht-requires c κs =
-    let e = c .before .before in
+    let e = c .before .before .before .before in
     let s = begun e in (
       any-shift (subst (λ (q : Plan). Ready q (s .args .offset) (s .args .stride .0) (s .args .dst .now) (s .args .coeff .now)) (plan-is e) (s .pre .0)),
       subst (λ (q : Plan). s .args .r ≤ q .h) (plan-is e) (s .pre .1),
@@ -31,14 +33,16 @@ by-wht-requires c κs =
 returns : tie.Need-returns
 returns c =
     let w = c .before .before .before in
-    let e = w .before .before .before in
+    let f = w .before .before .before in
+    let e = f .before .before in
     let s = begun e in
-    subst⁻¹ (λ (q : Plan). Passed q (s .args .depth) (s .args .offset) (s .args .stride .0) (s .args .r) (s .args .dst .now) (s .args .coeff .now) false (w .by-wht .last .0) (w .by-wht .last .1 .1 .1 .0)) (plan-is e) (w .by-wht .ensures (s .args .plan .shift))
+    subst⁻¹ (λ (g : Engine). Passed g (s .args .plan) (s .args .depth) (s .args .offset) (s .args .stride .0) (s .args .r) (s .args .dst .now) (s .args .coeff .now) false (w .by-wht .last .0) (w .by-wht .last .1 .1 .1 .0)) (f .enum-told2 .given .1)
+    (subst⁻¹ (λ (q : Plan). Passed First q (s .args .depth) (s .args .offset) (s .args .stride .0) (s .args .r) (s .args .dst .now) (s .args .coeff .now) false (w .by-wht .last .0) (w .by-wht .last .1 .1 .1 .0)) (plan-is e) (w .by-wht .ensures (s .args .plan .shift)))
 
 resolve-requires : tie.Need-resolve-requires
 resolve-requires c κs =
     let s = c .before .before .before .before .before in
-    record { sized = s .pre .0 .sized; coefs = s .pre .0 .coefs; some-rows = s .pre .1; empty = zeros-at 1024; long = refl }
+    (record { sized = s .pre .0 .sized; coefs = s .pre .0 .coefs; some-rows = s .pre .1; empty = zeros-at 1024; long = refl }, s .pre .2)
 
 add-block-requires : tie.Need-add-block-requires
 add-block-requires c κs =
@@ -57,10 +61,12 @@ by-passes-spec =
     tie.close
     (tie.spec
     (λ c. search needs)
+    (λ c. search needs)
     by-wht-requires
     (λ c. search needs)
     (λ c. search needs)
     returns
+    (λ c. search needs)
     (λ c κs. search needs)
     (λ c. search needs)
     resolve-requires

@@ -1,100 +1,28 @@
 -- `itx::inv_txfm_add` meets its contract.
+use mathlib.Core.Path.{_≡_, sym, ap, _∙_, subst}
 use mathlib.Core.Bool.{Bool}
-use mathlib.Core.Path.{_≡_, refl, sym, ap, _∙_, subst}
-use native.Mathlib.Omega.{arith}
 use lib.IntN.{ℤ}
 use mir.Syntax.{w32}
 use mir.ValLaws.{toZ-ofZ}
 use borrow.Author.Needs.{needs}
-use Rattle.bitdepth.specs.declared.Depth.{Depth}
-use Rattle.levels.specs.declared.Plan.{Plan}
-use Rattle.strided.specs.Planes.{in-pixels, lent}
-use Rattle.itx.specs.Calls.{Block, plain, short, verdict}
-use Rattle.itx.specs.Answers.{placed-of, block, Turned, Ready}
-use Rattle.itx.specs.Demands as Demands
-use Rattle.itx.proofs.Accepted as Accepted
-use Rattle.itx.proofs.Sameness.{rows-whole, sides, h-positive}
-use Rattle.itx.proofs.Verdicts.{accepted-by}
+use Rattle.strided.specs.Planes.{lent}
+use Rattle.levels.specs.Plans.{plan}
+use Rattle.residual.specs.declared.Engine.the-variants.{First}
+use Rattle.residual.specs.Blocks.{way-by}
+use Rattle.itx.specs.Calls.{Block, Leaves, plain, outcome-of, verdict}
+use Rattle.itx.specs.Answers.{answer-of, block}
+use Rattle.itx.proofs.Second.{allowed-first, first-meets}
 use Rattle.itx.proofs.inv_txfm_add.Statement.{statement}
 use Rattle.itx.proofs.inv_txfm_add.Tie as tie
-
-abbrev begun : tie.After-checked2 → tie.Start
-begun k = k .before .before .before .before .before
 
 abbrev given : tie.Start → Block
 given s = block (s .args .w) (s .args .h) (s .args .txtp) (s .args .depth) (s .args .coeff .now) (lent (s .args .dst .now) (s .args .offset) (s .args .stride .0))
 
--- what the checks answered
-checked : (o : tie.After-check-plain) → verdict (plain (o .before .before .before .args .eob)) (given (o .before .before .before)) ≡ placed-of (o .check-plain .result)
-checked o =
-    let s = o .before .before .before in
-    ap (λ (z : ℤ). verdict (plain z) (given s)) (sym (toZ-ofZ w32 (s .args .eob) (s .fits .eob))) ∙ sym (o .check-plain .ensures .0 (s .args .dst .now) refl)
-
--- what the acceptance told
-module _ (k : tie.After-checked2) where
-  abbrev p : Plan
-  p = k .checked2 .given .0 .0
-
-  abbrev d : Depth
-  d = k .checked2 .given .0 .1 .0
-
-  accepted : Demands.Accepted (plain (begun k .args .eob)) (given (begun k)) p d
-  accepted = accepted-by (plain (begun k .args .eob)) (given (begun k)) p d (checked (k .before .before) ∙ ap placed-of (k .checked2 .given .1))
-
-  turned : k .checked2 .given .0 .1 .1 .0 .0 ≡ in-pixels (begun k .args .stride .0)
-  turned = subst (Turned (begun k .args .stride .0)) (k .checked2 .given .1) (k .before .before .check-plain .ensures .1)
-
-  ready : Ready p (begun k .args .offset) (k .checked2 .given .0 .1 .1 .0 .0) (begun k .args .dst .now) (begun k .args .coeff .now)
-  ready = let s = begun k .args in Accepted.ready (plain (s .eob)) (s .w) (s .h) (s .txtp) (s .depth) (s .offset) (s .stride .0) (s .dst .now) (s .coeff .now) p d accepted _ turned
-
-refusal : tie.Need-returns-2
-refusal c =
+returns : tie.Need-returns
+returns c =
     let o = c .before .before .before in
-    let s = o .before .before .before in
-    Accepted.refusal-meets (plain (s .args .eob)) (s .args .w) (s .args .h) (s .args .txtp) (s .args .depth) (s .args .offset) (s .args .stride .0) (s .args .dst .now) (s .args .coeff .now) (c .before .checked .given .0 .0) (checked o ∙ ap placed-of (c .before .checked .given .1))
-
--- which way it went
-way-is : (o : tie.After-is-short) {t : Bool} → o .is-short .result ≡ t → short (plain (begun (o .before .before) .args .eob)) (p (o .before .before)) ≡ t
-way-is o e =
-    let s = begun (o .before .before) in
-    ap (λ (z : ℤ). short (plain z) (p (o .before .before))) (sym (toZ-ofZ w32 (s .args .eob) (s .fits .eob))) ∙ sym (o .is-short .ensures) ∙ e
-
-shortened : tie.Need-returns
-shortened c =
-    let o = c .before .before .before .before .before .before in
-    let k = o .before .before .before in
-    let s = begun k .args in
-    Accepted.shortcut-meets (plain (s .eob)) (s .w) (s .h) (s .txtp) (s .depth) (s .offset) (s .stride .0) (s .dst .now) (s .coeff .now) (p k) (d k) (accepted k) _ (turned k) (way-is (o .before) (o .if1 .taken)) (c .before .before .before .by-shortcut .ensures)
-
--- zero rows are left out
-passed : tie.Need-returns-3
-passed c =
-    let o = c .before .before .before in
-    let l = o .before .before .before in
-    let k = l .before .before .before .before .before in
-    let s = begun k .args in
-    let g = l .live-rows .ensures in
-    Accepted.passes-meet (plain (s .eob)) (s .w) (s .h) (s .txtp) (s .depth) (s .offset) (s .stride .0) (s .dst .now) (s .coeff .now) (p k) (d k) (accepted k) _ (turned k) (l .live-rows .result)
-    (way-is (l .before .before .before) (l .before .before .if1 .left))
-    (rows-whole (given (begun k)) (p k) (d k) (l .live-rows .result) (sides (given (begun k)) (p k) (d k) (plain (s .eob)) (accepted k) .0) (g .0 .1) (g .1))
-    (o .by-passes .ensures)
+    let s = o .before .before .before .before in
+    first-meets (plain (s .args .eob)) (given s) (subst (λ (z : ℤ). Leaves (outcome-of (way-by First) (plain z) (given s) (verdict (plain z) (given s))) (answer-of (o .plain .result)) (o .plain .last .1 .0) (o .plain .last .1 .1 .1 .1 .0)) (toZ-ofZ w32 (s .args .eob) (s .fits .eob)) (o .plain .ensures))
 
 pub inv-txfm-add-spec : {M : Type 1} → statement M
-inv-txfm-add-spec =
-    tie.close
-    (tie.spec
-    (λ c κs. search needs)
-    (λ c. search needs)
-    (λ c. search needs)
-    (λ c κs. search needs)
-    (λ c κs. ready (c .before .before .before .before .before))
-    (λ c. search needs)
-    (λ c. search needs)
-    shortened
-    (λ c κs. let k = c .before .before .before .before in (ready k .coefs .count, h-positive (given (begun k)) (p k) (d k) (plain (begun k .args .eob)) (accepted k)))
-    (λ c κs. (ready (c .before .before .before .before .before .before .before), c .before .before .live-rows .ensures .0 .1))
-    (λ c. search needs)
-    refusal
-    (λ c. search needs)
-    (λ c. search needs)
-    passed)
+inv-txfm-add-spec = tie.close (tie.spec (λ c κs. allowed-first _) (λ c. search needs) (λ c. search needs) returns)
