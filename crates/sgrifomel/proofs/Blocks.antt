@@ -10,7 +10,7 @@ use lib.IntN.{ℤ}
 use lib.ListN.{length}
 use Rattle.whole.specs.Numbers.{outside, low, high}
 use Rattle.whole.specs.Lists.{at, first}
-use Rattle.whole.specs.Checks.{Check, accept, refuse, then}
+use Rattle.whole.specs.Checks.{Check, accept, refuse, then, unless}
 use Rattle.bitdepth.specs.declared.Depth.{Depth}
 use Rattle.bitdepth.specs.Depths.{depth, row-range}
 use Rattle.levels.specs.declared.Plan.{Plan}
@@ -19,8 +19,10 @@ use Rattle.levels.specs.Plans.{among, shift-0, shift-1, shift-2, shift-of, kind
 use Rattle.levels.proofs.Sizes.{side-bounds, plan-sided}
 use Rattle.strided.specs.Planes.{bad-stride, row-outside}
 use Rattle.itx_1d.specs.Calls.{Answer}
-use Rattle.itx.specs.Calls.{Block, Call, bad-eob, bad-rows, stray, checks, verdict, short, outcome-of, by-shortcut, by-passes, live-rows, outcome, Meets}
-use Rattle.residual.specs.Blocks.{way}
+use Rattle.itx.specs.Calls.{Block, Call, bad-eob, bad-rows, stray, checks, verdict, spec-verdict, with-adst, short, outcome-of, by-shortcut, by-passes, live-rows, outcome, Meets}
+use Rattle.itx.specs.Av1.{av1-way}
+use Rattle.itx.specs.Spec.{SpecMeets, spec-outcome}
+use Rattle.residual.specs.Blocks.{Way, way}
 use Rattle.sgrifomel.specs.Words.{packed, PacksBlock}
 use Rattle.sgrifomel.proofs.Places.{first-below, Small, small-unless, small-at}
 
@@ -65,23 +67,34 @@ module _ (call : Call) (b : Block) where
       let s = plan-sided (b .w) (b .h) (b .type) p e in
       mul-le-mul (side-bounds (p .w) (s .0) .1) (side-bounds (p .h) (s .1) .1)
 
+  small-rest : (p : Plan) → plan (b .w) (b .h) (b .type) ≡ accept p → Small (then (depth (b .depth)) (checks call b p))
+  small-rest p e = small-then (depth (b .depth)) (checks call b p) (small-depth (b .depth)) (λ d f. small-checks p d (area p e))
+
   small-verdict : Small (verdict call b)
-  small-verdict =
-      small-then (plan (b .w) (b .h) (b .type)) (λ p. then (depth (b .depth)) (checks call b p)) (small-plan (b .w) (b .h) (b .type))
-      (λ p e. small-then (depth (b .depth)) (checks call b p) (small-depth (b .depth)) (λ d f. small-checks p d (area p e)))
+  small-verdict = small-then (plan (b .w) (b .h) (b .type)) (λ p. then (depth (b .depth)) (checks call b p)) (small-plan (b .w) (b .h) (b .type)) small-rest
+
+  small-spec-verdict : Small (spec-verdict call b)
+  small-spec-verdict =
+      small-then (plan (b .w) (b .h) (b .type)) (λ p. unless (with-adst p) 2 (then (depth (b .depth)) (checks call b p))) (small-plan (b .w) (b .h) (b .type))
+      (λ p e. small-unless (with-adst p) 2 (then (depth (b .depth)) (checks call b p)) (small-rest p e))
 
   -- an acceptance has place 0
-  small-done : (p : Plan) (d : Depth) (t : Bool) → cond t (by-shortcut b p d) (by-passes b p d (way p d) (live-rows call p)) .answer .place < 1024
-  small-done p d true = omega arith
-  small-done p d false = omega arith
+  module _ (engine : Plan → Depth → Way) where
+    small-done : (p : Plan) (d : Depth) (t : Bool) → cond t (by-shortcut b p d) (by-passes b p d (engine p d) (live-rows call p)) .answer .place < 1024
+    small-done p d true = omega arith
+    small-done p d false = omega arith
 
-  small-outcome : (k : Check (Plan × Depth)) → Small k → outcome-of way call b k .answer .place < 1024
-  small-outcome (accept a) h = small-done (a .0) (a .1) (short call (a .0))
-  small-outcome (refuse number i) h = h
+    small-outcome : (k : Check (Plan × Depth)) → Small k → outcome-of engine call b k .answer .place < 1024
+    small-outcome (accept a) h = small-done (a .0) (a .1) (short call (a .0))
+    small-outcome (refuse number i) h = h
 
   pub small-block : outcome call b .answer .place < 1024
   unfolding outcome
-  small-block = small-outcome (verdict call b) small-verdict
+  small-block = small-outcome way (verdict call b) small-verdict
+
+  small-spec-block : spec-outcome call b .answer .place < 1024
+  unfolding spec-outcome
+  small-spec-block = small-outcome av1-way (spec-verdict call b) small-spec-verdict
 
 -- so an answer that meets an outcome can be packed, and the word is the outcome's
 pub packable : (call : Call) (b : Block) {a : Answer} {ps : List ℕ} {c : List ℤ} → Meets call b a ps c → a .place < 1024
@@ -93,4 +106,16 @@ packs p q m e =
       answer = e ∙ ap packed (m .answer-is ∙ (λ i. outcome (p i) (q i) .answer));
       pixels = m .pixels-are ∙ (λ i. outcome (p i) (q i) .pixels);
       coefs = m .coefs-are ∙ (λ i. outcome (p i) (q i) .coefs);
+    }
+
+-- the same for the second engine
+pub spec-packable : (call : Call) (b : Block) {a : Answer} {ps : List ℕ} {c : List ℤ} → SpecMeets call b a ps c → a .place < 1024
+spec-packable call b m = subst⁻¹ (λ (a : Answer). a .place < 1024) (m .answer-is) (small-spec-block call b)
+
+pub spec-packs : {call asked : Call} {b given : Block} {a : Answer} {ps : List ℕ} {c : List ℤ} {w : ℕ} → asked ≡ call → given ≡ b → SpecMeets asked given a ps c → w ≡ packed a → PacksBlock (spec-outcome call b) w ps c
+spec-packs p q m e =
+    record {
+      answer = e ∙ ap packed (m .answer-is ∙ (λ i. spec-outcome (p i) (q i) .answer));
+      pixels = m .pixels-are ∙ (λ i. spec-outcome (p i) (q i) .pixels);
+      coefs = m .coefs-are ∙ (λ i. spec-outcome (p i) (q i) .coefs);
     }

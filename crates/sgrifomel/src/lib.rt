@@ -6,6 +6,7 @@ ghost use Rattle.itx_1d.specs.Calls as Calls;
 ghost use Rattle.itx_1d.specs.declared.Kind.the-variants.{Dct, Identity, Adst, FlipAdst};
 ghost use Rattle.strided.specs.Planes.{lent};
 ghost use Rattle.itx.specs.Calls as Blocks;
+ghost use Rattle.itx.specs.Spec.{spec-outcome};
 ghost use Rattle.itx.specs.Answers as Answers;
 ghost use Rattle.itx.specs.Answers.{block};
 ghost use Rattle.sgrifomel.specs.Words.{packed, Packs, PacksBlock};
@@ -192,4 +193,40 @@ pub extern "C" fn sgrifomel_inv_txfm_add_live(
 {
     let bytes = ByteStride(stride);
     pack_answer(itx::inv_txfm_add_live(dst, offset, bytes, coeff, r, w, h, txtp, depth))
+}
+
+#[no_mangle]
+pub extern "C" fn sgrifomel_spec_inv_txfm_add(
+    dst: &mut [u16],
+    offset: u32,
+    stride: i32,
+    coeff: &mut [i32],
+    eob: i32,
+    w: usize,
+    h: usize,
+    txtp: usize,
+    depth: usize,
+) -> u64
+    ensures { λ r. ⌜ PacksBlock (spec-outcome (Blocks.plain eob) (block w h txtp depth (now (coeff .entry)) (lent (now (dst .entry)) offset stride))) r (now (dst .exit)) (now (coeff .exit)) ⌝ }
+{
+    let bytes = ByteStride(stride);
+    pack_answer(itx::spec_inv_txfm_add(dst, offset, bytes, coeff, eob, w, h, txtp, depth))
+}
+
+#[no_mangle]
+pub extern "C" fn sgrifomel_spec_inv_txfm_add_live(
+    dst: &mut [u16],
+    offset: u32,
+    stride: i32,
+    coeff: &mut [i32],
+    r: usize,
+    w: usize,
+    h: usize,
+    txtp: usize,
+    depth: usize,
+) -> u64
+    ensures { λ a. ⌜ PacksBlock (spec-outcome (Blocks.live r) (block w h txtp depth (now (coeff .entry)) (lent (now (dst .entry)) offset stride))) a (now (dst .exit)) (now (coeff .exit)) ⌝ }
+{
+    let bytes = ByteStride(stride);
+    pack_answer(itx::spec_inv_txfm_add_live(dst, offset, bytes, coeff, r, w, h, txtp, depth))
 }
