@@ -88,6 +88,14 @@ uint64_t sgrifomel_inv_txfm_add(uint16_t *dst, size_t dst_len, uint32_t offset, 
 uint64_t sgrifomel_inv_txfm_add_live(uint16_t *dst, size_t dst_len, uint32_t offset, int32_t stride, int32_t *coeff,
                                      size_t coeff_len, size_t r, size_t w, size_t h, size_t txtp, size_t depth);
 
+/* The same two calls by the second engine, which takes the steps of section 7.13 of the AV1 specification: no clip within a
+   pass. Pixels and coefficients are those of the calls above wherever their mark is 0. Its own mark is always 0. Types with an
+   ADST or FLIPADST are refused by 2. It is slow: it is there to be read, and to be compared with. */
+uint64_t sgrifomel_spec_inv_txfm_add(uint16_t *dst, size_t dst_len, uint32_t offset, int32_t stride, int32_t *coeff,
+                                     size_t coeff_len, int32_t eob, size_t w, size_t h, size_t txtp, size_t depth);
+uint64_t sgrifomel_spec_inv_txfm_add_live(uint16_t *dst, size_t dst_len, uint32_t offset, int32_t stride, int32_t *coeff,
+                                          size_t coeff_len, size_t r, size_t w, size_t h, size_t txtp, size_t depth);
+
 #ifdef __cplusplus
 }
 #endif

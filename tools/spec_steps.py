@@ -3,8 +3,10 @@
 
 A plain reading, apart from the crates: no range, no clip within a pass, no table of 33, no code of the library.
 
-    spec_steps.py list            what `crates/known` prints of the second engine
-    spec_steps.py compare LIB [FILE] [N]   both engines of a shared library on the blocks of FILE, and on N generated ones
+    spec_steps.py known                    the lines that crates/known writes of the second engine
+    spec_steps.py compare LIB [FILE [N]]   both engines of a shared library on the blocks of FILE, and on N generated ones
+
+The library is made of the archive: cc -shared -o LIB -Wl,--whole-archive target/staticlib/libsgrifomel.a -Wl,--no-whole-archive
 """
 import ctypes, math, random, sys
 
@@ -132,11 +134,8 @@ def inverse_identity(T, n):
 
 # rows, columns
 KINDS = {0: ("dct", "dct"), 9: ("id", "id"), 10: ("id", "dct"), 11: ("dct", "id"), 16: ("wht", "wht")}
-SHIFT = {(w, h): s for s, sizes in enumerate((
-    ((4, 4), (4, 8), (8, 4)),
-    ((8, 8), (4, 16), (16, 4), (8, 16), (16, 8)),
-    ((16, 16), (32, 32), (8, 32), (32, 8), (16, 32), (32, 16)))) for w, h in sizes}
-SHIFT[16, 32] = SHIFT[32, 16] = 1
+SHIFT = {(4, 4): 0, (4, 8): 0, (8, 4): 0, (4, 16): 1, (8, 8): 1, (8, 16): 1, (16, 4): 1, (16, 8): 1, (16, 32): 1, (32, 16): 1,
+         (8, 32): 2, (16, 16): 2, (32, 8): 2, (32, 32): 2}
 
 
 def transform(T, kind, n, shift):
@@ -185,3 +184,113 @@ def expected(w, h, kind, depth, eob, coefs, pixels, live=None):
         return [max(0, min(top, p + v)) for p in pixels], [0] + coefs[1:]
     R = residual(w, h, KINDS[kind], depth, coefs, h if live is None else live)
     return [max(0, min(top, pixels[y * w + x] + R[y][x])) for y in range(h) for x in range(w)], [0] * (w * h)
+
+
+# ---- the lines of crates/known
+
+def sparse(n, **places):
+    c = [0] * n
+    for k, v in places.items():
+        c[int(k[1:])] = v
+    return c
+
+
+def samples():
+    ends = [32767] * 16
+    for i, v in ((1, -32768), (6, -32768), (11, -32768), (12, 0)):
+        ends[i] = v
+    for eob, kind in ((0, 0), (1, 0), (1, 9), (1, 10), (1, 11), (1, 16), (1, 1)):
+        yield 4, 4, kind, 8, eob, ends, 100, None
+    yield 8, 8, 0, 8, 1, sparse(64, i8=32767, i24=32767, i33=-32768), 100, None
+    yield 4, 8, 0, 10, 1, [-131072 if i in (3, 20) else 131071 for i in range(32)], 512, None
+    m = 524288
+    yield 32, 8, 0, 12, 1, sparse(256, i8=m - 1, i24=-m, i72=m - 1, i120=m - 1, i248=-m), 2048, 1
+    yield 8, 32, 0, 12, 1, sparse(256, i1=m - 1, i3=-m, i15=m - 1, i31=-m), 2048, None
+    yield 16, 16, 0, 12, 1, sparse(256, i0=m - 1, i1=-m, i17=m - 1, i19=m - 1, i21=-m), 2048, None
+
+
+def known():
+    def block(pixels, coefs):
+        return "pixels %s coefficients %s" % (" ".join(map(str, pixels)), " ".join(map(str, coefs)))
+
+    for w, h, kind, depth, eob, coefs, pixel, live in samples():
+        pixels = [pixel] * (w * h)
+        last = "eob %d" % eob if live is None else "r %d" % live
+        done = (pixels, coefs) if kind not in KINDS else expected(w, h, kind, depth, eob, coefs, pixels, live)
+        print("spec %dx%d type %d depth %d offset 0 stride %d %s %s: %d 0 no %s" % (w, h, kind, depth, 2 * w, last, block(pixels, coefs), 0 if kind in KINDS else 2, block(*done)))
+
+
+# ---- the library's two engines beside these steps
+
+class Library:
+    def __init__(self, path):
+        self.lib = ctypes.CDLL(path)
+
+    def call(self, name, w, h, kind, depth, last, coefs, pixels):
+        f = getattr(self.lib, name)
+        f.restype = ctypes.c_uint64
+        c, p = (ctypes.c_int32 * len(coefs))(*coefs), (ctypes.c_uint16 * len(pixels))(*pixels)
+        z = ctypes.c_size_t
+        last = z(last) if name.endswith("live") else ctypes.c_int32(last)
+        a = f(p, z(len(pixels)), ctypes.c_uint32(0), ctypes.c_int32(2 * w), c, z(len(coefs)), last, z(w), z(h), z(kind), z(depth))
+        return a, list(p), list(c)
+
+
+def generated(rng):
+    w, h = rng.choice(sorted(SHIFT))
+    kinds = [0, 9] + ([10, 11] if w * h <= 128 or (w, h) == (16, 16) else []) + ([16] if (w, h) == (4, 4) else [])
+    kind, depth = rng.choice(kinds), rng.choice((8, 10, 12))
+    m = 1 << depth + 7
+    style, share = rng.randrange(4), rng.choice((0.03, 0.3, 1.0))
+    one = {0: lambda: rng.choice((-m, m - 1)), 1: lambda: rng.randrange(-m, m), 2: lambda: rng.randrange(-200, 201), 3: lambda: rng.randrange(-m // 8, m // 8)}[style]
+    coefs = [one() if rng.random() < share else 0 for _ in range(w * h)]
+    return w, h, kind, depth, rng.randrange(3), coefs, [rng.randrange(1 << depth) for _ in range(w * h)]
+
+
+def compare(lib, blocks):
+    seen = dict(blocks=0, marked=0, differ=0, refused=0)
+    for w, h, kind, depth, eob, coefs, pixels in blocks:
+        first = lib.call("sgrifomel_inv_txfm_add", w, h, kind, depth, eob, coefs, pixels)
+        spec = lib.call("sgrifomel_spec_inv_txfm_add", w, h, kind, depth, eob, coefs, pixels)
+        seen["blocks"] += 1
+        if kind not in KINDS:
+            assert spec == (2, list(pixels), list(coefs)), "an ADST is refused by 2"
+            seen["refused"] += 1
+            continue
+        assert first[0] in (0, 256) and spec == (0, *expected(w, h, kind, depth, eob, coefs, pixels)), (w, h, kind, depth, eob)
+        live = max([1] + [i % h + 1 for i in range(w * h) if coefs[i]])
+        assert lib.call("sgrifomel_spec_inv_txfm_add_live", w, h, kind, depth, live, coefs, pixels) == (0, *expected(w, h, kind, depth, 1, coefs, pixels, live))
+        seen["marked"] += first[0] >> 8
+        if first[0] == 256:
+            seen["differ"] += first[1:] != spec[1:]
+        else:
+            assert first == spec, "unmarked, and yet not the same"
+    return seen
+
+
+def blocks_of(path):
+    from block_cases import read_number, read_record
+    b = open(path, "rb").read()
+    at = read_number(b, 0)[1]
+    while at < len(b):
+        (*head, coefs, pixels), at = read_record(b, at)
+        yield *head, list(coefs), list(pixels)
+
+
+def main():
+    if sys.argv[1:] == ["known"]:
+        known()
+        return 0
+    if len(sys.argv) < 3 or sys.argv[1] != "compare":
+        print(__doc__)
+        return 2
+    lib, rng = Library(sys.argv[2]), random.Random(8)
+    if len(sys.argv) > 3:
+        print(sys.argv[3], compare(lib, blocks_of(sys.argv[3])))
+    count = int(sys.argv[4]) if len(sys.argv) > 4 else 3000
+    print("generated", compare(lib, (generated(rng) for _ in range(count))))
+    return 0
+
+
+if __name__ == "__main__":
+    sys.exit(main())

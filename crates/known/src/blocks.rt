@@ -1,5 +1,5 @@
-// The two-dimensional calls: document 01, "Known results", four blocks of request E9's types, and both sides of numbers 1 to 10.
-ghost use Prim.Native.Nat.{_<_};
+// The two-dimensional calls: document 01, "Known results", four blocks of request E9's types, both sides of numbers 1 to 10, and blocks by E8's engine.
+ghost use Prim.Native.Nat.{_<_, _≤_};
 use crate::show;
 use itx::Answer;
 use itx::Refusal;
@@ -22,6 +22,41 @@ fn shown(answer: Answer, dst: &[u16], c: &[i32]) {
     show::end();
 }
 
+// The arguments of a plain call, and of a live-row call.
+fn asked(
+    dst: &[u16],
+    offset: u32,
+    stride: i32,
+    c: &[i32],
+    eob: i32,
+    w: usize,
+    h: usize,
+    txtp: usize,
+    depth: usize,
+) {
+    show::size(w, h, txtp, depth);
+    show::plane(offset, stride);
+    show::eob(eob);
+    show::block(dst, c);
+}
+
+fn asked_live(
+    dst: &[u16],
+    offset: u32,
+    stride: i32,
+    c: &[i32],
+    r: usize,
+    w: usize,
+    h: usize,
+    txtp: usize,
+    depth: usize,
+) {
+    show::size(w, h, txtp, depth);
+    show::plane(offset, stride);
+    show::number(b" r ", r as u64);
+    show::block(dst, c);
+}
+
 fn plain(
     dst: &mut [u16],
     offset: u32,
@@ -33,10 +68,7 @@ fn plain(
     txtp: usize,
     depth: usize,
 ) {
-    show::size(w, h, txtp, depth);
-    show::plane(offset, stride);
-    show::eob(eob);
-    show::block(&*dst, &*c);
+    asked(&*dst, offset, stride, &*c, eob, w, h, txtp, depth);
     let bytes = ByteStride(stride);
     let answer = itx::inv_txfm_add(&mut *dst, offset, bytes, &mut *c, eob, w, h, txtp, depth);
     shown(answer, &*dst, &*c);
@@ -53,12 +85,40 @@ fn live(
     txtp: usize,
     depth: usize,
 ) {
-    show::size(w, h, txtp, depth);
-    show::plane(offset, stride);
-    show::number(b" r ", r as u64);
-    show::block(&*dst, &*c);
+    asked_live(&*dst, offset, stride, &*c, r, w, h, txtp, depth);
     let bytes = ByteStride(stride);
     let answer = itx::inv_txfm_add_live(&mut *dst, offset, bytes, &mut *c, r, w, h, txtp, depth);
+    shown(answer, &*dst, &*c);
+}
+
+// The second engine's calls on a whole block (E8).
+fn spec(dst: &mut [u16], c: &mut [i32], eob: i32, w: usize, h: usize, txtp: usize, depth: usize)
+    requires { ⌜ w ≤ 32 ⌝ }
+{
+    let stride = (w * 2) as i32;
+    show::spec();
+    asked(&*dst, 0, stride, &*c, eob, w, h, txtp, depth);
+    let bytes = ByteStride(stride);
+    let answer = itx::spec_inv_txfm_add(&mut *dst, 0, bytes, &mut *c, eob, w, h, txtp, depth);
+    shown(answer, &*dst, &*c);
+}
+
+fn spec_live(
+    dst: &mut [u16],
+    c: &mut [i32],
+    r: usize,
+    w: usize,
+    h: usize,
+    txtp: usize,
+    depth: usize,
+)
+    requires { ⌜ w ≤ 32 ⌝ }
+{
+    let stride = (w * 2) as i32;
+    show::spec();
+    asked_live(&*dst, 0, stride, &*c, r, w, h, txtp, depth);
+    let bytes = ByteStride(stride);
+    let answer = itx::spec_inv_txfm_add_live(&mut *dst, 0, bytes, &mut *c, r, w, h, txtp, depth);
     shown(answer, &*dst, &*c);
 }
 
@@ -274,6 +334,61 @@ fn number_10() {
     strays(15, 4);
 }
 
+// Sixteen coefficients at the ends of depth 8's range.
+fn ends_of_4x4() -> [i32; 16] {
+    let mut c = [32767i32; 16];
+    c[1] = -32768;
+    c[6] = -32768;
+    c[11] = -32768;
+    c[12] = 0;
+    c
+}
+
+fn spec_of_4x4(eob: i32, txtp: usize) {
+    let mut c = ends_of_4x4();
+    spec(&mut [100u16; 16], &mut c, eob, 4, 4, txtp, 8);
+}
+
+// Blocks whose clips act in the first engine: its outcome is another. What is written here was made by tools/spec_steps.py.
+fn of_spec() {
+    spec_of_4x4(0, 0);
+    spec_of_4x4(1, 0);
+    spec_of_4x4(1, 9);
+    spec_of_4x4(1, 10);
+    spec_of_4x4(1, 11);
+    spec_of_4x4(1, 16);
+    spec_of_4x4(1, 1);
+    let mut c = [0i32; 64];
+    c[8] = 32767;
+    c[24] = 32767;
+    c[33] = -32768;
+    spec(&mut [100u16; 64], &mut c, 1, 8, 8, 0, 8);
+    let mut d = [131071i32; 32];
+    d[3] = -131072;
+    d[20] = -131072;
+    spec(&mut [512u16; 32], &mut d, 1, 4, 8, 0, 10);
+    let mut e = [0i32; 256];
+    e[8] = 524287;
+    e[24] = -524288;
+    e[72] = 524287;
+    e[120] = 524287;
+    e[248] = -524288;
+    spec_live(&mut [2048u16; 256], &mut e, 1, 32, 8, 0, 12);
+    let mut f = [0i32; 256];
+    f[1] = 524287;
+    f[3] = -524288;
+    f[15] = 524287;
+    f[31] = -524288;
+    spec(&mut [2048u16; 256], &mut f, 1, 8, 32, 0, 12);
+    let mut g = [0i32; 256];
+    g[0] = 524287;
+    g[1] = -524288;
+    g[17] = 524287;
+    g[19] = 524287;
+    g[21] = -524288;
+    spec(&mut [2048u16; 256], &mut g, 1, 16, 16, 0, 12);
+}
+
 pub fn all() {
     of_4x4();
     of_adst();
@@ -292,4 +407,5 @@ pub fn all() {
     number_8();
     number_9();
     number_10();
+    of_spec();
 }

@@ -34,6 +34,11 @@ pub fn pixels(dst: &[u16]) {
     }
 }
 
+// A call of the second engine.
+pub fn spec() {
+    io::write_all(1, b"spec ");
+}
+
 pub fn size(w: usize, h: usize, txtp: usize, depth: usize) {
     number(b"", w as u64);
     number(b"x", h as u64);
