@@ -10,3 +10,4 @@ pub mod Ends
 pub mod Laying
 pub mod Quick
 pub mod Scaling
+pub mod Engines

@@ -122,8 +122,23 @@ fn round(t: &mut [i32], plan: Plan, n: usize, min: i32, max: i32)
     }
 }
 
-// A pass on a line of the block, by either engine. The second takes no range, and has no mark.
-fn pass_by(
+// A pass on a row of the block, by either engine. The second takes no range, and has no mark. Rows and columns have a function each: the compiler then
+// calls both engines' passes, and puts neither into the other's way, whose stack it would take.
+fn row_by(engine: Engine, kind: Kind, c: &mut [i32], n: usize, min: i32, max: i32) -> bool
+    requires { ⌜ Passing kind (now c) n 1 min max × T (Blocks.serves engine kind) ⌝ }
+    ensures { λ r. ⌜ Inner.Made (Blocks.passed-by engine kind (side n) (natAbs min)) n 1 (now (c .entry)) (now (c .exit)) r ⌝ }
+{
+    match engine {
+        Engine::First => inv_1d(kind, c, n, 1, min, max),
+        Engine::Spec => {
+            inverse(kind, c, n, 1);
+            false
+        }
+    }
+}
+
+// The same on a column.
+fn column_by(
     engine: Engine,
     kind: Kind,
     c: &mut [i32],
@@ -162,7 +177,7 @@ fn rows_by_line(
     let mut mark = false;
     for y in 0..r {
         load_row(&mut *t, plan, coeff, y);
-        let hit = pass_by(engine, kind, &mut t[y * w..], w, 1, min, max);
+        let hit = row_by(engine, kind, &mut t[y * w..], w, min, max);
         mark = mark | hit;
     }
     mark
@@ -178,7 +193,7 @@ fn columns_by_line(t: &mut [i32], engine: Engine, plan: Plan, min: i32, max: i32
     let h = plan.h;
     let mut mark = false;
     for x in 0..w {
-        let hit = pass_by(engine, kind, &mut t[x..], h, w, min, max);
+        let hit = column_by(engine, kind, &mut t[x..], h, w, min, max);
         mark = mark | hit;
     }
     mark

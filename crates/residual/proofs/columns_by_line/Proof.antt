@@ -29,8 +29,8 @@ abbrev μ-loop : tie.MeasureT-loop
 loop-holds : tie.Need-loop-holds Inv-loop μ-loop
 loop-holds c = (record { elements = record { passed = λ y x l g. (let f : ⊥ = omega arith in absurd f); waiting = λ y x l k g. refl; long = c .pre .0 .long }; marked = refl }, omega arith)
 
-pass-by-requires : tie.Need-pass-by-requires Inv-loop μ-loop
-pass-by-requires c κs =
+column-by-requires : tie.Need-column-by-requires Inv-loop μ-loop
+column-by-requires c κs =
     let i = c .before in
     let h = i .before .loop in
     let s = i .before .before in (
@@ -50,9 +50,9 @@ loop-again c =
     let s = i .before .before in
     let m = natAbs (toZ w32 (ofZ w32 (s .args .min))) in
     let f : ℕ → Bool = λ x. column-by (s .args .engine) (s .args .plan .columns) m (s .args .plan .w) (s .args .plan .h) (s .args .t .now) x .mark in
-    let mark = column-mark (s .args .engine) (s .args .plan .columns) m (s .args .plan .w) (s .args .plan .h) (h .x) (s .args .t .now) (h .t) (s .pre .0 .is-length) (i .loop-test .taken) (s .pre .0 .room) (h .inv .0 .elements) (d .pass-by .last .1 .1 .0) (d .pass-by .result) (d .pass-by .ensures) in (
+    let mark = column-mark (s .args .engine) (s .args .plan .columns) m (s .args .plan .w) (s .args .plan .h) (h .x) (s .args .t .now) (h .t) (s .pre .0 .is-length) (i .loop-test .taken) (s .pre .0 .room) (h .inv .0 .elements) (d .column-by .last .1 .1 .0) (d .column-by .result) (d .column-by .ensures) in (
       record {
-        elements = column-more (s .args .engine) (s .args .plan .columns) m (s .args .plan .w) (s .args .plan .h) (h .x) (s .args .t .now) (h .t) (s .pre .0 .is-length) (i .loop-test .taken) (s .pre .0 .room) (h .inv .0 .elements) (d .pass-by .last .1 .1 .0) (d .pass-by .result) (d .pass-by .ensures);
+        elements = column-more (s .args .engine) (s .args .plan .columns) m (s .args .plan .w) (s .args .plan .h) (h .x) (s .args .t .now) (h .t) (s .pre .0 .is-length) (i .loop-test .taken) (s .pre .0 .room) (h .inv .0 .elements) (d .column-by .last .1 .1 .0) (d .column-by .result) (d .column-by .ensures);
         marked = (λ k. h .inv .0 .marked k || mark k) ∙ sym (any-snoc (h .x) f) ∙ ap (λ (k : ℕ). any k f) (sym (add-one (h .x)));
       },
       omega arith,
@@ -81,7 +81,7 @@ columns-by-line-spec =
     (λ c. omega (arith, here c, c .before .loop .inv .0 .elements .long))
     (λ c. omega (arith, here c, c .before .loop .inv .0 .elements .long))
     (λ c. le-refl _)
-    pass-by-requires
+    column-by-requires
     (λ c. omega arith)
     (λ c. omega arith)
     loop-again

@@ -73,8 +73,8 @@ module _ (c : tie.After-load-row Inv-loop μ-loop) where
       let p = start .args .plan in
       le-trans (entering-small (p .rows) (p .w) (p .h) _ (start .pre .0 .coefs .small (y + x * p .h) (by-column (p .w) (p .h) y x (omega (arith, turn .loop-test .taken, start .pre .0 .some-rows)) l))) (at-most (p .rows))
 
-pass-by-requires : tie.Need-pass-by-requires Inv-loop μ-loop
-pass-by-requires c κs =
+row-by-requires : tie.Need-row-by-requires Inv-loop μ-loop
+row-by-requires c κs =
     let l = c .before .before in
     let s = start l in (
       record {
@@ -93,9 +93,9 @@ loop-again c =
     let h = turn l .before .loop in
     let w = s .args .plan .w in
     let f : ℕ → Bool = λ v. row-by (s .args .engine) (s .args .plan) (m l) (s .args .coeff .now) v .mark in
-    let mark = row-mark w (y l) (g l) (e l) (h .t) (l .load-row .last .0) (s .pre .0 .sized .width) (room l) (h .inv .0 .elements) (l .load-row .ensures) (passed-by (s .args .engine) (s .args .plan .rows) (side w) (m l)) (d .pass-by .last .1 .1 .0) (d .pass-by .result) (d .pass-by .ensures) (λ x. refl) in (
+    let mark = row-mark w (y l) (g l) (e l) (h .t) (l .load-row .last .0) (s .pre .0 .sized .width) (room l) (h .inv .0 .elements) (l .load-row .ensures) (passed-by (s .args .engine) (s .args .plan .rows) (side w) (m l)) (d .row-by .last .1 .1 .0) (d .row-by .result) (d .row-by .ensures) (λ x. refl) in (
       record {
-        elements = row-more w (y l) (g l) (e l) (h .t) (l .load-row .last .0) (s .pre .0 .sized .width) (room l) (h .inv .0 .elements) (l .load-row .ensures) (passed-by (s .args .engine) (s .args .plan .rows) (side w) (m l)) (d .pass-by .last .1 .1 .0) (d .pass-by .result) (d .pass-by .ensures) (λ x. refl);
+        elements = row-more w (y l) (g l) (e l) (h .t) (l .load-row .last .0) (s .pre .0 .sized .width) (room l) (h .inv .0 .elements) (l .load-row .ensures) (passed-by (s .args .engine) (s .args .plan .rows) (side w) (m l)) (d .row-by .last .1 .1 .0) (d .row-by .result) (d .row-by .ensures) (λ x. refl);
         marked = (λ k. h .inv .0 .marked k || mark k) ∙ sym (any-snoc (h .y) f) ∙ ap (λ (k : ℕ). any k f) (sym (add-one (h .y)));
       },
       omega (arith, turn l .loop-test .taken),
@@ -122,7 +122,7 @@ rows-by-line-spec =
     (λ c. omega (arith, room (c .before), long (c .before)))
     (λ c. omega (arith, room (c .before), long (c .before)))
     (λ c. le-refl _)
-    pass-by-requires
+    row-by-requires
     (λ c. omega arith)
     (λ c. omega arith)
     loop-again
