@@ -16,13 +16,11 @@ use Rattle.bitdepth.specs.declared.Depth.{Depth}
 use Rattle.bitdepth.specs.Depths.{depth}
 use Rattle.levels.specs.declared.Plan.{Plan}
 use Rattle.levels.specs.Plans.{plan}
-use Rattle.residual.specs.declared.Engine.{Engine}
 use Rattle.residual.specs.declared.Engine.the-variants.{First, Spec}
-use Rattle.residual.specs.Blocks.{Way, way-by, marked, row, column}
-use Rattle.residual.specs.Inner.{Served}
+use Rattle.residual.specs.Blocks.{way-by, marked, row, column}
 use Rattle.itx.specs.Answers.{Allowed, adst-planned}
 use Rattle.itx.specs.Av1.{av1-way}
-use Rattle.itx.specs.Calls.{Block, Call, Outcome, Leaves, Meets, checks, verdict, spec-verdict, with-adst, short, live-rows, by-shortcut, by-passes, outcome-of, outcome}
+use Rattle.itx.specs.Calls.{Block, Call, Outcome, Leaves, Meets, checks, verdict, spec-verdict, with-adst, short, live-rows, by-shortcut, outcome-of, outcome}
 use Rattle.itx.specs.Spec.{SpecMeets, spec-outcome}
 use Rattle.itx.proofs.Av1Same.{enter-av1, between-av1, unmarked-av1}
 

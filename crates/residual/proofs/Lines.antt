@@ -15,8 +15,8 @@ use Rattle.whole.specs.Lists.{at, tab}
 use Rattle.whole.proofs.Counts.{tab-ext}
 use Rattle.av1.specs.Sides.{len, side}
 use Rattle.itx_1d.specs.Passes.{Passed}
-use Rattle.itx_1d.specs.Calls.{taken, put}
-use Rattle.itx_1d.specs.Inner.{Reaches, Passable}
+use Rattle.itx_1d.specs.Calls.{taken}
+use Rattle.itx_1d.specs.Inner.{Passable}
 use Rattle.residual.specs.Inner.{Made}
 use Rattle.itx_1d.proofs.Strides.{length-put, kept, put-at, not-0}
 

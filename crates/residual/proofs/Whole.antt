@@ -10,7 +10,7 @@ use lib.Dec.{T, ltb, lit≤}
 use lib.IntN.{ℤ, pos, natAbs}
 use lib.ListN.{length}
 use Rattle.whole.specs.Numbers.{round2, clip, low, high}
-use Rattle.whole.specs.Lists.{at, tab, any}
+use Rattle.whole.specs.Lists.{at, tab}
 use Rattle.whole.proofs.Clips.{clip-abs}
 use Rattle.whole.proofs.Counts.{tab-ext, any-ext}
 use Rattle.av1.specs.Sides.{Side, side}
@@ -29,7 +29,7 @@ use Rattle.bitdepth.specs.Depths.{row-range, column-range}
 use Rattle.levels.specs.declared.Plan.{Plan}
 use Rattle.residual.specs.declared.Engine.{Engine}
 use Rattle.residual.specs.declared.Engine.the-variants.{First, Spec}
-use Rattle.residual.specs.Blocks.{passed-by, serves, way-by, row, middle, column, marked}
+use Rattle.residual.specs.Blocks.{passed-by, serves, way-by, middle, column, marked}
 use Rattle.residual.specs.Inner.{fill, rounding, loaded, row-by, RowsAreIn, HoldsIn, column-by, ColumnsAreIn, Sized, Coefs, Served, ResolvedIn}
 use Rattle.residual.proofs.Fills.{fill-after, fill-own}
 use Rattle.residual.proofs.Places.{by-row, by-column}

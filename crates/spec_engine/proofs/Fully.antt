@@ -3,7 +3,7 @@ use mathlib.Core.Path.{_≡_, refl, sym, ap, _∙_, subst, subst⁻¹}
 use mathlib.Core.List.{List, [], _∷_, _++_, map}
 use Prim.Native.Nat.{ℕ, zero, suc, _+_, _*_, _^_, _≤_, _<_}
 use native.Mathlib.Omega.{arith}
-use lib.Dec.{T, lit≤}
+use lib.Dec.{T}
 use lib.IntN.{ℤ, pos, natAbs}
 use lib.ListN.{getD, length, drop, replicate, set, List·getD-append}
 use lib.Seq.{getD-drop}
@@ -12,7 +12,7 @@ use Rattle.whole.specs.Lists.{at, tab}
 use Rattle.whole.specs.Both.{Both}
 use Rattle.whole.proofs.Counts.{tab-ext, tab-length, map-at}
 use Rattle.av1.specs.Sides.{Side, of4, of8, of16, of32, bits, len, side}
-use Rattle.av1.specs.Network.{Alg, table, steps, join, run, brev, dct, permuted}
+use Rattle.av1.specs.Network.{Alg, table, steps, run, brev, dct}
 use Rattle.av1.specs.Values.{exact}
 use Rattle.av1.specs.Passes.{av1-identity, av1-wht}
 use Rattle.itx_1d.specs.declared.Kind.{Kind}
@@ -24,7 +24,7 @@ use Rattle.itx_1d.proofs.PassLaws.{run-length, len-power, wht-av1}
 use Rattle.itx_1d.proofs.Strides.{at-most-32}
 use Rattle.spec_engine.specs.Arrays.{points, Points, begun, Held, Begins, specified, Ready, Transforms}
 use Rattle.spec_engine.specs.Lines.{Small, Ahead, run-lines}
-use Rattle.spec_engine.proofs.Fronts.{both-of, begun-all, begun-long, begun-at, power, points-small, brev-below}
+use Rattle.spec_engine.proofs.Fronts.{both-of, begun-all, begun-long, begun-at, power, points-small}
 use Rattle.spec_engine.proofs.Grows.{begin, in-steps}
 
 -- ---- the DCT

@@ -5,20 +5,20 @@ use mathlib.Core.List.{List, [], _∷_, _++_}
 use Prim.Native.Nat.{ℕ, _≤_}
 use native.Mathlib.Nat.{le-trans}
 use native.Mathlib.Omega.{arith}
-use lib.IntN.{ℤ, pos, natAbs, _+ℤ_, _-ℤ_}
+use lib.IntN.{ℤ, pos, natAbs}
 use lib.Dec.{T, leb, ltb, leb→le, ltb→lt}
 use lib.ListN.{getD, replicate}
 use mir.Facts.{and-yes}
 use Rattle.whole.specs.Lists.{at}
 use Rattle.whole.specs.Numbers.{_>>_, round2}
 use Rattle.whole.proofs.Machine.{var, lit, _⊕_, _⊝_, _⊛_, _≫_, bound}
-use Rattle.av1.specs.Sides.{Side, of4, of8, of16, of32, len, bits}
-use Rattle.av1.specs.Network.{Step, B, H, turn, mix, step, join, table, steps, run}
+use Rattle.av1.specs.Sides.{Side, of4, of8, of16, of32, bits}
+use Rattle.av1.specs.Network.{Step, turn, mix, step, join, table, run}
 use Rattle.av1.specs.Values.{exact}
 use Rattle.whole.specs.Both.{Both}
 use Rattle.av1.proofs.Related.{Respects, step-related, run-related}
 use Rattle.av1.proofs.Related as Related
-use Rattle.spec_engine.specs.Growth.{growth, fits, fitting, all-below, Rotatable, Addable}
+use Rattle.spec_engine.specs.Growth.{growth, fits, fitting, Rotatable, Addable}
 use Rattle.spec_engine.specs.Lines.{Small, Able, Ahead, run-lines, fitting-lines}
 
 pub grows : Respects exact growth Small

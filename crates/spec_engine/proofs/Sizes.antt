@@ -1,22 +1,19 @@
 -- How large a pass without clips leaves its numbers.
-use mathlib.Core.Path.{_≡_, refl, sym, subst}
+use mathlib.Core.Path.{_≡_, refl, subst}
 use mathlib.Core.Bool.{false}
 use mathlib.Core.List.{List}
 use Prim.Native.Nat.{ℕ, _+_, _*_, _^_, _≤_}
 use native.Mathlib.Nat.{le-trans}
 use native.Mathlib.Omega.{arith}
-use lib.Dec.{T, lit≤, leb→le}
+use lib.Dec.{T, lit≤}
 use lib.IntN.{ℤ, pos, natAbs}
-use lib.ListN.{getD}
 use Rattle.whole.specs.Lists.{at, tab}
-use Rattle.av1.specs.Sides.{Side, of4, of8, of16, of32, len, bits}
-use Rattle.av1.specs.Network.{run, steps, brev, dct}
-use Rattle.av1.specs.Values.{exact}
+use Rattle.av1.specs.Sides.{Side, of4, of8, of16, of32, bits}
+use Rattle.av1.specs.Network.{run, steps, brev}
 use Rattle.av1.proofs.Related.{both-tab, run-related}
 use Rattle.av1.proofs.Related as Related
 use Rattle.itx_1d.specs.declared.Kind.{Kind}
 use Rattle.itx_1d.specs.declared.Kind.the-variants.{Dct, Identity, Wht, Adst, FlipAdst}
-use Rattle.itx_1d.specs.Manners.{is-wht}
 use Rattle.itx_1d.specs.Passes.{pass, av1-pass}
 use Rattle.itx_1d.proofs.PassLaws.{pass-av1, pass-small}
 use Rattle.spec_engine.specs.Growth.{growth, all-below}

@@ -1,6 +1,5 @@
 -- A line's table, a row at a time.
 use mathlib.Core.Path.{_≡_, refl, ap, _∙_, subst}
-use mathlib.Core.Bool.{_&&_}
 use mathlib.Core.List.{List, [], _∷_}
 use Prim.Native.Nat.{ℕ, suc, _+_, _≤_, _<_}
 use native.Mathlib.Omega.{arith}
@@ -8,7 +7,7 @@ use lib.Dec.{T, eqb, leb, leb→le}
 use lib.ListN.{length, getD, drop, length-drop}
 use lib.Seq.{drop-cons}
 use mir.Facts.{and-yes}
-use Rattle.av1.specs.Network.{Step, mix, turn}
+use Rattle.av1.specs.Network.{mix, turn}
 use Rattle.spec_engine.specs.Lines.{rotations, butterflies, angled}
 
 module _ (rs : List (List ℕ)) (i : ℕ) (h : i < length rs) where

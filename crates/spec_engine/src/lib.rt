@@ -10,7 +10,10 @@
 //
 // T is the specification's array T: 32 numbers, of which a transform of 2^n points uses the first 2^n. Where the specification asks that a value of T fits a number of
 // bits, nothing is clipped here: the value stays what it is. 32 bits hold every number of T, whatever the coefficients, and 64 bits every product; that is proved
-// (specs/Growth.antt), as is each function's promise, the `ensures` above its body. Lines with 64 points, and the ADSTs, are left out.
+// (specs/Growth.antt), as is each function's promise, the `ensures` above its body.
+//
+// Left out: the ADSTs (7.13.2.4 to 7.13.2.9), and in 7.13.2.3 the lines that are for n equal to 6 alone, 64 points. So the lines are numbered anew here, 1 to 20,
+// in the specification's order.
 ghost use mathlib.Core.Path.{_≡_};
 ghost use Prim.Native.Nat.{ℕ, _+_, _*_, _^_, _≤_, _<_};
 ghost use lib.IntN.{ℤ, pos, natAbs};
@@ -32,7 +35,7 @@ use itx_1d::scatter;
 
 // ---- 7.13.2.1: butterfly functions
 
-// Cos128_Lookup, every second entry: entry i is 4096 times the cosine of i/64 of half a turn, rounded. Up to 32 points every angle is even.
+// COS128[ i ] is Cos128_Lookup[ 2 * i ]: 4096 times the cosine of i/64 of half a turn, rounded. Up to 32 points every angle is even, so half of the table is enough.
 const COS128: [i32; 33] = [
     4096,
     4091,
@@ -69,7 +72,7 @@ const COS128: [i32; 33] = [
     0,
 ];
 
-// cos128( angle ): the table at the angle, and its mirror image with the sign changed above 64. No line below has an angle above 128.
+// cos128( angle ): Cos128_Lookup[ angle ] up to 64, and -Cos128_Lookup[ 128 - angle ] from there to 128. No line below has a larger angle.
 fn cos128(angle: usize) -> i32
     requires { ⌜ angle ≤ 128 ⌝ }
     ensures { λ r. ⌜ r ≡ Network.cos128 angle ⌝ }
@@ -81,7 +84,7 @@ fn cos128(angle: usize) -> i32
     }
 }
 
-// sin128( angle ) = cos128( angle - 64 ), and a cosine of a negative angle is that of the positive one.
+// sin128( angle ) = cos128( angle - 64 ). Below 64 that is a negative angle, whose cosine is that of 64 - angle.
 fn sin128(angle: usize) -> i32
     requires { ⌜ angle ≤ 128 ⌝ }
     ensures { λ r. ⌜ r ≡ Network.sin128 angle ⌝ }
@@ -135,7 +138,7 @@ fn rotate(t: &mut [i32; 32], a: usize, b: usize, angle: usize, flip: bool)
     }
 }
 
-// H( a, b, 0 ), the Hadamard rotation: the sum to T[ a ], the difference to T[ b ].
+// H( a, b, 0, r ), the Hadamard rotation: the sum to T[ a ], the difference to T[ b ]. The specification asks that both fit r bits; here they need not.
 fn add(t: &mut [i32; 32], a: usize, b: usize)
     requires { ⌜ Addable (now t) a b ⌝ }
     ensures { λ _. ⌜ now (t .exit) ≡ Network.step exact (Network.H a b) (now (t .entry)) ⌝ }

@@ -1,12 +1,10 @@
 -- `itx::inv_txfm_add` meets its contract.
-use mathlib.Core.Path.{_≡_, sym, ap, _∙_, subst}
-use mathlib.Core.Bool.{Bool}
+use mathlib.Core.Path.{subst}
 use lib.IntN.{ℤ}
 use mir.Syntax.{w32}
 use mir.ValLaws.{toZ-ofZ}
 use borrow.Author.Needs.{needs}
 use Rattle.strided.specs.Planes.{lent}
-use Rattle.levels.specs.Plans.{plan}
 use Rattle.residual.specs.declared.Engine.the-variants.{First}
 use Rattle.residual.specs.Blocks.{way-by}
 use Rattle.itx.specs.Calls.{Block, Leaves, plain, outcome-of, verdict}

@@ -1,7 +1,6 @@
 -- `residual::rows_by_line` meets its contract.
 use mathlib.Core.Path.{_≡_, refl, sym, ap, _∙_, subst}
 use mathlib.Core.Bool.{Bool, _||_}
-use mathlib.Core.List.{List}
 use Prim.Native.Nat.{ℕ, suc, _+_, _≤_, _<_, _*_, _-_}
 use native.Mathlib.Nat.{le-refl, le-trans, mul-le-mul-right}
 use native.Mathlib.Numerals.{add-one}
@@ -14,7 +13,6 @@ use mir.ValLaws.{toZ-ofZ}
 use Rattle.whole.specs.Lists.{at, any}
 use Rattle.whole.proofs.Counts.{any-snoc}
 use Rattle.whole.proofs.Held.{to2}
-use Rattle.itx_1d.specs.Passes.{Passed}
 use Rattle.itx_1d.specs.Inner.{most, Limited}
 use Rattle.itx_1d.proofs.Manners.{at-most}
 use Rattle.av1.specs.Sides.{side}

@@ -1,7 +1,7 @@
 -- `spec_engine::log2` meets its contract.
-use mathlib.Core.Path.{_≡_, sym, ap}
+use mathlib.Core.Path.{sym, ap}
 use Prim.Native.Nat.{ℕ}
-use Rattle.av1.specs.Sides.{Side, bits, side}
+use Rattle.av1.specs.Sides.{bits, side}
 use Rattle.itx_1d.proofs.Through.{sided-32}
 use Rattle.spec_engine.proofs.log2.Statement.{statement}
 use Rattle.spec_engine.proofs.log2.Tie as tie

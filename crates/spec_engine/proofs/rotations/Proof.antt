@@ -1,15 +1,14 @@
 -- `spec_engine::rotations` meets its contract: what is left of the line is still to be run.
-use mathlib.Core.Path.{_≡_, refl, sym, ap, _∙_, subst, subst⁻¹}
-use mathlib.Core.Bool.{Bool, true, false, not}
+use mathlib.Core.Path.{_≡_, sym, ap, _∙_, subst, subst⁻¹}
+use mathlib.Core.Bool.{Bool}
 use mathlib.Core.List.{List, [], _∷_}
-use Prim.Native.Nat.{ℕ, _≤_, _<_, _+_, _-_}
+use Prim.Native.Nat.{ℕ, _≤_, _+_, _-_}
 use native.Mathlib.Omega.{arith}
 use borrow.Author.Needs.{needs}
 use borrow.Author.Tests.{not-true, not-false}
 use lib.Dec.{T, eqb}
-use lib.IntN.{ℤ}
 use lib.ListN.{length, getD, drop}
-use Rattle.av1.specs.Network.{Step, turn, step, run}
+use Rattle.av1.specs.Network.{Step, turn, run}
 use Rattle.av1.specs.Values.{exact}
 use Rattle.spec_engine.specs.Lines.{rotations, angled, when, Able}
 use Rattle.spec_engine.proofs.Grows.{able-rotate, able-next}

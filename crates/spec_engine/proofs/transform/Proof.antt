@@ -1,7 +1,7 @@
 -- `spec_engine::transform` meets its contract.
-use mathlib.Core.Path.{_≡_, refl, sym, ap, _∙_, subst, subst⁻¹}
+use mathlib.Core.Path.{_≡_, subst, subst⁻¹}
 use mathlib.Core.List.{List}
-use Prim.Native.Nat.{ℕ, _^_}
+use Prim.Native.Nat.{_^_}
 use lib.Dec.{T, eqb→eq}
 use lib.IntN.{ℤ}
 use borrow.Author.Needs.{needs}

@@ -1,7 +1,7 @@
 -- `spec_engine::wht` meets its contract.
 use mathlib.Core.Path.{_≡_, _∙_}
 use mathlib.Core.List.{List, [], _∷_}
-use Prim.Native.Nat.{ℕ, _<_}
+use Prim.Native.Nat.{ℕ}
 use native.Mathlib.Omega.{arith}
 use lib.Dec.{T}
 use lib.IntN.{ℤ}
@@ -13,7 +13,6 @@ use Rattle.whole.specs.Numbers.{_>>_}
 use Rattle.whole.specs.Lists.{at}
 use Rattle.whole.proofs.Machine.{E, var, _⊕_, _⊝_, _≫_, Within, ok, raw, ev, need, reads}
 use Rattle.av1.specs.Passes.{av1-wht}
-use Rattle.spec_engine.specs.Arrays.{Begins}
 use Rattle.spec_engine.proofs.Fronts.{four}
 use Rattle.spec_engine.proofs.wht.Statement.{statement}
 use Rattle.spec_engine.proofs.wht.Tie as tie
