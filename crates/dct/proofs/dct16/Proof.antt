@@ -8,7 +8,7 @@ use lib.ListN.{take, drop}
 use borrow.Author.Needs.{needs}
 use Rattle.av1.specs.Network.{Step}
 use Rattle.dct.specs.Halves.{before, last}
-use Rattle.dct.proofs.Walk.{Walked, halved, turned, joined, ask-turns, ask-joins}
+use Rattle.dct.proofs.Walk.{Walked, halved, turned, joined, by-tx64, in-full, ask-turns, ask-joins}
 use Rattle.dct.proofs.dct16.Statement.{statement}
 use Rattle.dct.proofs.dct16.Tie as tie
 
@@ -16,7 +16,7 @@ abbrev steps : ℕ → ℕ → List Step
 steps i j = take (j - i) (drop i (before 3 ++ last 3))
 
 abbrev Walk : tie.Start → ℕ → List ℤ → Bool → Type 0
-Walk s k u r = Walked (s .args .min) (s .args .max) (s .args .t .now) (steps 0 k) u r
+Walk s k u r = Walked (s .args .tx64) (s .args .min) (s .args .max) (s .args .t .now) (steps 0 k) u r
 
 abbrev s0 : tie.After-dct8 → tie.Start
 s0 c = c .before .before
@@ -75,17 +75,17 @@ dct16-spec =
     (λ c κs. search needs)
     (λ c. search needs)
     (λ c. search needs)
-    (λ c κs. ask-turns (w0 (c .before .before .before)) refl tt)
+    (λ c κs. ask-turns by-tx64 (w0 (c .before .before .before)) refl tt tt)
     (λ c. search needs)
-    (λ c κs. ask-joins (w1 (c .before .before)) tt)
-    (λ c. search needs)
-    (λ c. search needs)
-    (λ c κs. ask-turns (w2 (c .before .before .before)) refl tt)
-    (λ c. search needs)
-    (λ c κs. ask-joins (w3 (c .before .before)) tt)
+    (λ c κs. ask-joins (w1 (c .before .before)) tt tt)
     (λ c. search needs)
     (λ c. search needs)
-    (λ c κs. ask-turns (w4 (c .before .before .before)) refl tt)
+    (λ c κs. ask-turns in-full (w2 (c .before .before .before)) refl tt tt)
     (λ c. search needs)
-    (λ c κs. ask-joins (w5 (c .before .before)) tt)
+    (λ c κs. ask-joins (w3 (c .before .before)) tt tt)
+    (λ c. search needs)
+    (λ c. search needs)
+    (λ c κs. ask-turns in-full (w4 (c .before .before .before)) refl tt tt)
+    (λ c. search needs)
+    (λ c κs. ask-joins (w5 (c .before .before)) tt tt)
     returns)

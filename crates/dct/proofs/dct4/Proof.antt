@@ -8,7 +8,7 @@ use lib.ListN.{take, drop}
 use borrow.Author.Needs.{needs}
 use Rattle.av1.specs.Network.{Step}
 use Rattle.dct.specs.Halves.{before, last}
-use Rattle.dct.proofs.Walk.{Walked, begin, turned, joined, ask-turns, ask-joins}
+use Rattle.dct.proofs.Walk.{Walked, begin, turned, joined, by-tx64, ask-turns, ask-joins}
 use Rattle.dct.proofs.dct4.Statement.{statement}
 use Rattle.dct.proofs.dct4.Tie as tie
 
@@ -16,7 +16,7 @@ abbrev steps : ℕ → ℕ → List Step
 steps i j = take (j - i) (drop i (before 1 ++ last 1))
 
 abbrev Walk : tie.Start → ℕ → List ℤ → Bool → Type 0
-Walk s k u r = Walked (s .args .min) (s .args .max) (s .args .t .now) (steps 0 k) u r
+Walk s k u r = Walked (s .args .tx64) (s .args .min) (s .args .max) (s .args .t .now) (steps 0 k) u r
 
 w0 : (s : tie.Start) → Walk s 0 (s .args .t .now) false
 w0 s = begin (s .fits .min) (s .fits .max) (s .pre)
@@ -44,10 +44,10 @@ dct4-spec =
     (tie.spec
     (λ c. search needs)
     (λ c. search needs)
-    (λ c κs. ask-turns (w0 (c .before .before .before)) refl tt)
+    (λ c κs. ask-turns by-tx64 (w0 (c .before .before .before)) refl tt tt)
     (λ c. search needs)
     (λ c. search needs)
-    (λ c κs. ask-turns (w1 (c .before .before .before)) refl tt)
+    (λ c κs. ask-turns by-tx64 (w1 (c .before .before .before)) refl tt tt)
     (λ c. search needs)
-    (λ c κs. ask-joins (w2 (c .before .before)) tt)
+    (λ c κs. ask-joins (w2 (c .before .before)) tt tt)
     returns)

@@ -18,13 +18,13 @@ use Rattle.dct.proofs.turns.Statement.{statement}
 use Rattle.dct.proofs.turns.Tie as tie
 
 abbrev Inv-loop : tie.InvT-loop
-Inv-loop t₀ pairs angles flip i₀ t i =
-    Able (turns flip (drop i pairs) (drop i angles)) t
+Inv-loop t₀ tx64 pairs angles flip i₀ t i =
+    Able tx64 (turns flip (drop i pairs) (drop i angles)) t
     × (run exact (turns flip (drop i pairs) (drop i angles)) t ≡ run exact (turns flip pairs angles) t₀)
     × (i ≤ length pairs)
 
 abbrev μ-loop : tie.MeasureT-loop
-μ-loop t₀ pairs angles flip i₀ t i = length pairs - i
+μ-loop t₀ tx64 pairs angles flip i₀ t i = length pairs - i
 
 abbrev head : tie.After-sin Inv-loop μ-loop → tie.At-loop Inv-loop μ-loop
 head c = c .before .before .before .before .before
@@ -48,13 +48,13 @@ rest c = let s = start c in let i = head c .loop .i in turns (s .args .flip) (dr
 parted : (c : tie.After-sin Inv-loop μ-loop) → let s = start c in let i = head c .loop .i in turns (s .args .flip) (drop i (s .args .pairs .now)) (drop i (s .args .angles .now)) ≡ this c ∷ rest c
 parted c = let s = start c in turns-at (s .args .pairs .now) (head c .loop .i) (s .args .flip) (s .args .angles .now) (c .before .before .before .before .loop-test .taken) (s .pre .even)
 
-able : (c : tie.After-sin Inv-loop μ-loop) → Able (this c ∷ rest c) (head c .loop .t)
-able c = subst (λ (l : List Step). Able l (head c .loop .t)) (parted c) (head c .loop .inv .0)
+able : (c : tie.After-sin Inv-loop μ-loop) → Able (start c .args .tx64) (this c ∷ rest c) (head c .loop .t)
+able c = subst (λ (l : List Step). Able (start c .args .tx64) l (head c .loop .t)) (parted c) (head c .loop .inv .0)
 
 turn-requires : tie.Need-turn-requires Inv-loop μ-loop
 turn-requires c κs =
     let e = c .before in
-    to2 (Turnable (head e .loop .t) _ _) (record { sfits = e .before .cos .given }) (record { sfits = e .sin .given }) (able-turn (able e))
+    to2 (Turnable (start e .args .tx64) (head e .loop .t) _ _) (record { sfits = e .before .cos .given }) (record { sfits = e .sin .given }) (able-turn (able e))
 
 loop-again : tie.Need-loop-again Inv-loop μ-loop
 loop-again c =
@@ -67,7 +67,7 @@ loop-again c =
     let cos = toZ-ofZ w32 (getD (s .args .angles .now) i (pos 0)) (record { sfits = e .before .cos .given }) in
     let sin = toZ-ofZ w32 (getD (s .args .angles .now) (i + 1) (pos 0)) (record { sfits = e .sin .given }) in
     let is : c .turn .last .0 ≡ step exact (this e) t = c .turn .ensures ∙ (λ k. step exact (B a b (cos k) (sin k) (s .args .flip)) t) in (
-      subst⁻¹ (Able (rest e)) (is ∙ no-clip (pos 0) (pos 0) a b (getD (s .args .angles .now) i (pos 0)) (getD (s .args .angles .now) (i + 1) (pos 0)) (s .args .flip) t) (able-next none (able e)),
+      subst⁻¹ (Able (s .args .tx64) (rest e)) (is ∙ no-clip (pos 0) (pos 0) a b (getD (s .args .angles .now) i (pos 0)) (getD (s .args .angles .now) (i + 1) (pos 0)) (s .args .flip) t) (able-next none (able e)),
       ap (run exact (rest e)) is ∙ ap (λ (l : List Step). run exact l t) (sym (parted e)) ∙ head e .loop .inv .1,
       omega arith,
     )
