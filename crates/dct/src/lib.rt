@@ -133,7 +133,13 @@ pub fn dct8(t: &mut [i32; 32], tx64: bool, min: i32, max: i32) -> bool
     ensures { λ r. ⌜ Stages.Through 2 min max (now (t .entry)) (now (t .exit)) r ⌝ }
 {
     let half = dct4(&mut *t, tx64, min, max);
-    turns(&mut *t, tx64, &[4, 7, 5, 6], &[799, 4017, 3406, 2276], false);
+    turns(
+        &mut *t,
+        tx64,
+        &[4, 7, 5, 6],
+        &[799, 4017, 3406, 2276],
+        false,
+    );
     let odd = joins(&mut *t, &[4, 5, 7, 6], min, max);
     turns(&mut *t, false, &[6, 5], &[2896, 2896], true);
     let last = joins(&mut *t, &[0, 7, 1, 6, 2, 5, 3, 4], min, max);
@@ -158,9 +164,21 @@ pub fn dct16(t: &mut [i32; 32], tx64: bool, min: i32, max: i32) -> bool
     let half = dct8(&mut *t, tx64, min, max);
     turns(&mut *t, tx64, &TURNS16, &ANGLES16, false);
     let odd = joins(&mut *t, &JOINS16, min, max);
-    turns(&mut *t, false, &[14, 9, 13, 10], &[1567, 3784, -3784, 1567], true);
+    turns(
+        &mut *t,
+        false,
+        &[14, 9, 13, 10],
+        &[1567, 3784, -3784, 1567],
+        true,
+    );
     let odd_a = joins(&mut *t, &JOINS16A, min, max);
-    turns(&mut *t, false, &[13, 10, 12, 11], &[2896, 2896, 2896, 2896], true);
+    turns(
+        &mut *t,
+        false,
+        &[13, 10, 12, 11],
+        &[2896, 2896, 2896, 2896],
+        true,
+    );
     let last = joins(&mut *t, &LAST16, min, max);
     half | odd | odd_a | last
 }
