@@ -91,7 +91,7 @@ halved {t = t} n f g q e =
     (e .mark ∙ read-back f g (λ x y. hits x y (before n ++ last n) t))
 
 -- what the next stage's code asks: the first turns of the inputs go by `tx64`, the others do not. The test is computed for both.
-either : (P : Bool → Type 0) → P true → P false → (b : Bool) → P b
+pub either : (P : Bool → Type 0) → P true → P false → (b : Bool) → P b
 either P t f true = t
 either P t f false = f
 

@@ -46,8 +46,11 @@ pub record Joined (ss : List Step) (lo hi : ℤ) (t u : List ℤ) (r : Bool) : T
 
 -- what a DCT of 2 ^ suc n points on the work array asks, and gives: the mark is yes when any of its clips changes a value, the half's included.
 -- The inputs stand in bit-reversed order: where the upper half of them is zero (`tx64`), the odd places are.
+abbrev pub reach : Bool → ℕ → ℕ
+reach tx64 i = cond (tx64 && eqb (i % 2) 1) 0 524288
+
 abbrev pub small : Bool → List ℕ
-small tx64 = tab 32 (λ i. cond (tx64 && eqb (i % 2) 1) 0 524288)
+small tx64 = tab 32 (reach tx64)
 
 pub record Ready (tx64 : Bool) (t : List ℤ) (lo hi : ℤ) : Type 0 where
   pub inside : Both Small t (small tx64)

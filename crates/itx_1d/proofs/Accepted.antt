@@ -12,7 +12,6 @@ use borrow.Author.Tests.{eqb-false}
 use mir.Facts.{and-yes}
 use mir.Syntax.{w32}
 use mir.Val.{SFits, toZ, ofZ}
-use mir.ValLaws.{toZ-ofZ}
 use denote.Enum.Declared.{tagOf}
 use types.Run.{OneOf, miss}
 use Rattle.whole.specs.Numbers.{same, outside, low, high}
@@ -20,7 +19,7 @@ use Rattle.whole.specs.Lists.{at, first}
 use Rattle.whole.specs.Checks.{accept, unless, unless-at}
 use Rattle.whole.proofs.Clips.{inside-abs}
 use Rattle.whole.proofs.Counts.{first-none}
-use Rattle.whole.proofs.Held.{same-is}
+use Rattle.whole.proofs.Held.{from2, same-is}
 use Rattle.av1.specs.Sides.{Side, len, side}
 use Rattle.itx_1d.specs.declared.Kind.{Kind}
 use Rattle.itx_1d.specs.declared.Kind.the-variants.{Wht}
@@ -101,7 +100,7 @@ zero-inside = of-ranges (λ lo hi. outside (pos 0) lo hi ≡ false) refl refl re
 
 -- a caller's range, as a callee reads it
 pub plain : (f : ℤ → ℤ → Outcome) {d : List ℤ} {lo hi : ℤ} {r : Pass} → SFits w32 lo → SFits w32 hi → Meets (f (toZ w32 (ofZ w32 lo)) (toZ w32 (ofZ w32 hi))) r d → Meets (f lo hi) r d
-plain f {d} {lo} {hi} {r} p q m = subst (λ (o : Outcome). Meets o r d) (λ i. f (toZ-ofZ w32 lo p i) (toZ-ofZ w32 hi q i)) m
+plain f {d} {r = r} p q m = from2 (λ lo hi. Meets (f lo hi) r d) p q m
 
 -- ---- the definitions, with the length as the code has it
 

@@ -20,7 +20,7 @@ use Rattle.av1.specs.Network.{permuted, run, steps}
 use Rattle.av1.specs.Values.{clipped, hits}
 use Rattle.dct.specs.Halves.{before, last}
 use Rattle.dct.specs.Fitting.{Small, Ends}
-use Rattle.dct.specs.Stages.{Through, small}
+use Rattle.dct.specs.Stages.{Through, reach, small}
 use Rattle.dct.proofs.Order.{order, mark-order}
 use Rattle.dct.proofs.Walk.{read-back}
 use Rattle.itx_1d.specs.declared.Kind.the-variants.{Dct}
@@ -47,7 +47,7 @@ not-more false n = le-refl n
 
 -- an element is as small as its place asks
 cell-small : (tx64 : Bool) (n : ℕ) (e : len (side n) ≡ n) (xs : List ℤ) → ((j : ℕ) → j < looked tx64 n → natAbs (at xs j) ≤ 524288)
-    → (i : ℕ) → i < n → natAbs (at (read tx64 (side n) xs) (source n i)) ≤ cond (tx64 && eqb (i % 2) 1) 0 524288
+    → (i : ℕ) → i < n → natAbs (at (read tx64 (side n) xs) (source n i)) ≤ reach tx64 i
 cell-small tx64 n e xs p i h = go (tx64 && eqb (i % 2) 1) refl
   where
     go : (b : Bool) → tx64 && eqb (i % 2) 1 ≡ b → natAbs (at (read tx64 (side n) xs) (source n i)) ≤ cond b 0 524288
@@ -58,8 +58,7 @@ pub gathered-small : (tx64 : Bool) (n : ℕ) (e : len (side n) ≡ n) (xs : List
     → Both Small (gathered (read tx64 (side n) xs) n) (small tx64)
 gathered-small tx64 n e xs p =
     let all : n + (32 - n) ≡ 32 = omega (arith, at-most-32 n e) in
-    let g : ℕ → ℕ = λ i. cond (tx64 && eqb (i % 2) 1) 0 524288 in
-    subst (λ (k : ℕ). Both Small (gathered (read tx64 (side n) xs) n) (tab k g)) all (padded-small n (32 - n) (λ i. at (read tx64 (side n) xs) (source n i)) g (cell-small tx64 n e xs p))
+    subst (λ (k : ℕ). Both Small (gathered (read tx64 (side n) xs) n) (tab k (reach tx64))) all (padded-small n (32 - n) (λ i. at (read tx64 (side n) xs) (source n i)) (reach tx64) (cell-small tx64 n e xs p))
 
 -- the elements of a list that are looked at
 pub taken-small : (tx64 : Bool) (c : List ℤ) (s n : ℕ) → Seen c s n (looked tx64 n) 524288 → (j : ℕ) → j < looked tx64 n → natAbs (at (taken c s n) j) ≤ 524288
