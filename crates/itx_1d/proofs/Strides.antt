@@ -88,6 +88,9 @@ module _ (n : ℕ) (e : len (side n) ≡ n) (i : ℕ) (h : i < n) where
   placed : {odd : Bool} → eqb (i % 2) 1 ≡ odd → T (cond odd (leb (n / 2) (source n i)) (ltb (source n i) (n / 2)))
   placed p = subst (λ (b : Bool). T (cond b (leb (n / 2) (source n i)) (ltb (source n i) (n / 2)))) p (from .half)
 
+  pub odd-high : eqb (i % 2) 1 ≡ true → n / 2 ≤ source n i
+  odd-high p = leb→le (n / 2) (source n i) (placed p)
+
   pub read-in : (tx64 : Bool) → tx64 && eqb (i % 2) 1 ≡ false → source n i < looked tx64 n
   read-in true p = ltb→lt (source n i) (n / 2) (placed p)
   read-in false p = from .below
@@ -98,7 +101,7 @@ module _ (n : ℕ) (e : len (side n) ≡ n) (i : ℕ) (h : i < n) where
 
   pub unread-is : (tx64 : Bool) (xs : List ℤ) → tx64 && eqb (i % 2) 1 ≡ true → at (read tx64 (side n) xs) (source n i) ≡ pos 0
   unread-is true xs p =
-      lower-at n e xs (source n i) (from .below) ∙ ap (λ (b : Bool). cond b (at xs (source n i)) (pos 0)) (le-ltb (source n i) (n / 2) (leb→le (n / 2) (source n i) (placed p)))
+      lower-at n e xs (source n i) (from .below) ∙ ap (λ (b : Bool). cond b (at xs (source n i)) (pos 0)) (le-ltb (source n i) (n / 2) (odd-high p))
   unread-is false xs p = absurd (subst T (sym p) tt)
 
 -- one element more in front of the zeros
