@@ -19,7 +19,7 @@ use Rattle.whole.proofs.Machine.{var, lit, _⊕_, _⊝_, _⊛_, _≫_, bound}
 use Rattle.av1.specs.Network.{Step, B, H, step}
 use Rattle.av1.specs.Values.{exact, clipped}
 use Rattle.av1.proofs.Related as Related
-use Rattle.dct.specs.Fitting.{Ends, Turnable, Mixable, Small, sizes, lonely, turning, fits, fitting, Able}
+use Rattle.dct.specs.Fitting.{Ends, Turnable, Lonely, Mixable, Small, sizes, lonely, turning, fits, fitting, Able}
 
 module _ {lo hi : ℤ} (ends : Ends lo hi) where
   pub keep-small : Related.Respects (clipped lo hi) sizes Small
@@ -46,41 +46,39 @@ small-at t β most h i k = le-trans (Related.at Small (pos 0) 0 (omega arith) h 
 zero-at : (t : List ℤ) (β : List ℕ) → Both Small t β → (i : ℕ) → T (eqb (getD β i 0) 0) → at t i ≡ pos 0
 zero-at t β h i k = is-zero (at t i) (omega (arith, small-at t β 0 h i (subst⁻¹ (λ (n : ℕ). T (leb n 0)) (eqb→eq (getD β i 0) 0 k) tt)))
 
-pub able-turn : {h : Bool} {a b : ℕ} {c s : ℤ} {flip : Bool} {ss : List Step} {t : List ℤ} → Able h (B a b c s flip ∷ ss) t → Turnable h t a b c s
-able-turn {h} {a} {b} {c} {s} {flip} {ss} {t} w =
-    let β = w .β in
-    let o = and-yes (turning a b c s β) (not h || lonely a b c s β) (and-yes (fits h (B a b c s flip) β) (fitting h ss (step sizes (B a b c s flip) β)) (w .ok) .0) in
-    let p = and-yes (ltb a 32 && ltb b 32) ((leb (getD β a 0) 524288 && leb (getD β b 0) 524288) && (leb (natAbs c) 4096 && leb (natAbs s) 4096)) (o .0) in
-    let q = and-yes (leb (getD β a 0) 524288 && leb (getD β b 0) 524288) (leb (natAbs c) 4096 && leb (natAbs s) 4096) (p .1) in
-    let ab = and-yes (ltb a 32) (ltb b 32) (p .0) in
-    let xy = and-yes (leb (getD β a 0) 524288) (leb (getD β b 0) 524288) (q .0) in
-    let cs = and-yes (leb (natAbs c) 4096) (leb (natAbs s) 4096) (q .1) in
-    let x = small-at t β 524288 (w .inside) a (xy .0) in
-    let y = small-at t β 524288 (w .inside) b (xy .1) in
-    let a-in = ltb→lt a 32 (ab .0) in
-    let b-in = ltb→lt b 32 (ab .1) in
-    record {
-      a-in = a-in;
-      b-in = b-in;
-      x-small = x;
-      y-small = y;
-      cos-small = leb→le _ 4096 (cs .0);
-      sin-small = leb→le _ 4096 (cs .1);
-      alone = λ e.
-          let l = and-yes (eqb (getD β (cond (eqb (a % 2) 0) b a) 0) 0) (leb (natAbs c) 4095 && leb (natAbs s) 4095) (subst (λ (k : Bool). T (not k || lonely a b c s β)) e (o .1)) in
-          let m = and-yes (leb (natAbs c) 4095) (leb (natAbs s) 4095) (l .1) in
-          let zero : (i : ℕ) → cond (eqb (a % 2) 0) b a ≡ i → at t i ≡ pos 0 = λ i z. zero-at t β (w .inside) i (subst (λ (k : ℕ). T (eqb (getD β k 0) 0)) z (l .0)) in
-          record {
-            a-in = a-in;
-            b-in = b-in;
-            x-small = x;
-            y-small = y;
-            cos-small = leb→le _ 4095 (m .0);
-            sin-small = leb→le _ 4095 (m .1);
-            first = λ z. zero b (λ i. cond (eqb (z i) 0) b a);
-            second = λ z. zero a (λ i. cond (ne-eqb (a % 2) 0 z i) b a);
-          };
-    }
+module _ {h : Bool} {a b : ℕ} {c s : ℤ} {flip : Bool} {ss : List Step} {t : List ℤ} (w : Able h (B a b c s flip ∷ ss) t) where
+  both-tests : T (turning a b c s (w .β)) × T (not h || lonely a b c s (w .β))
+  both-tests = and-yes (turning a b c s (w .β)) (not h || lonely a b c s (w .β)) (and-yes (fits h (B a b c s flip) (w .β)) (fitting h ss (step sizes (B a b c s flip) (w .β))) (w .ok) .0)
+
+  pub able-turn : Turnable t a b c s
+  able-turn =
+      let β = w .β in
+      let p = and-yes (ltb a 32 && ltb b 32) ((leb (getD β a 0) 524288 && leb (getD β b 0) 524288) && (leb (natAbs c) 4096 && leb (natAbs s) 4096)) (both-tests .0) in
+      let q = and-yes (leb (getD β a 0) 524288 && leb (getD β b 0) 524288) (leb (natAbs c) 4096 && leb (natAbs s) 4096) (p .1) in
+      let ab = and-yes (ltb a 32) (ltb b 32) (p .0) in
+      let xy = and-yes (leb (getD β a 0) 524288) (leb (getD β b 0) 524288) (q .0) in
+      let cs = and-yes (leb (natAbs c) 4096) (leb (natAbs s) 4096) (q .1) in
+      record {
+        a-in = ltb→lt a 32 (ab .0);
+        b-in = ltb→lt b 32 (ab .1);
+        x-small = small-at t β 524288 (w .inside) a (xy .0);
+        y-small = small-at t β 524288 (w .inside) b (xy .1);
+        cos-small = leb→le _ 4096 (cs .0);
+        sin-small = leb→le _ 4096 (cs .1);
+      }
+
+  pub able-lone : h ≡ true → Lonely t a b c s
+  able-lone e =
+      let l = and-yes (eqb (getD (w .β) (cond (eqb (a % 2) 0) b a) 0) 0) (leb (natAbs c) 4095 && leb (natAbs s) 4095) (subst (λ (k : Bool). T (not k || lonely a b c s (w .β))) e (both-tests .1)) in
+      let m = and-yes (leb (natAbs c) 4095) (leb (natAbs s) 4095) (l .1) in
+      let zero : (i : ℕ) → cond (eqb (a % 2) 0) b a ≡ i → at t i ≡ pos 0 = λ i z. zero-at t (w .β) (w .inside) i (subst (λ (k : ℕ). T (eqb (getD (w .β) k 0) 0)) z (l .0)) in
+      record {
+        turnable = able-turn;
+        cos-less = leb→le _ 4095 (m .0);
+        sin-less = leb→le _ 4095 (m .1);
+        first = λ z. zero b (λ i. cond (eqb (z i) 0) b a);
+        second = λ z. zero a (λ i. cond (ne-eqb (a % 2) 0 z i) b a);
+      }
 
 pub able-join : {a b : ℕ} {ss : List Step} {t : List ℤ} → Able false (H a b ∷ ss) t → Mixable t a b
 able-join {a} {b} {ss} {t} w =

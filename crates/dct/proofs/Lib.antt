@@ -3,4 +3,5 @@ pub mod Order
 pub mod Fits
 pub mod Alone
 pub mod Tables
+pub mod Loop
 pub mod Walk

@@ -33,24 +33,20 @@ pub record Ends (lo hi : ℤ) : Type 0 where
   pub high : natAbs hi ≤ 524288
 
 -- what the code of a turn, of one whose element at the odd place is zero, and of a butterfly asks of the work array
-pub record Lonely (t : List ℤ) (a b : ℕ) (c s : ℤ) : Type 0 where
-  pub a-in : a < 32
-  pub b-in : b < 32
-  pub x-small : natAbs (at t a) ≤ 524288
-  pub y-small : natAbs (at t b) ≤ 524288
-  pub cos-small : natAbs c ≤ 4095
-  pub sin-small : natAbs s ≤ 4095
-  pub first : a % 2 ≡ 0 → at t b ≡ pos 0
-  pub second : a % 2 ≢ 0 → at t a ≡ pos 0
-
-pub record Turnable (tx64 : Bool) (t : List ℤ) (a b : ℕ) (c s : ℤ) : Type 0 where
+pub record Turnable (t : List ℤ) (a b : ℕ) (c s : ℤ) : Type 0 where
   pub a-in : a < 32
   pub b-in : b < 32
   pub x-small : natAbs (at t a) ≤ 524288
   pub y-small : natAbs (at t b) ≤ 524288
   pub cos-small : natAbs c ≤ 4096
   pub sin-small : natAbs s ≤ 4096
-  pub alone : tx64 ≡ true → Lonely t a b c s
+
+pub record Lonely (t : List ℤ) (a b : ℕ) (c s : ℤ) : Type 0 where
+  pub turnable : Turnable t a b c s
+  pub cos-less : natAbs c ≤ 4095
+  pub sin-less : natAbs s ≤ 4095
+  pub first : a % 2 ≡ 0 → at t b ≡ pos 0
+  pub second : a % 2 ≢ 0 → at t a ≡ pos 0
 
 pub record Mixable (t : List ℤ) (a b : ℕ) : Type 0 where
   pub a-in : a < 32

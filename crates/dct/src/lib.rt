@@ -1,5 +1,6 @@
 // The DCTs of src/itx_1d.rs on a work array that holds the inputs in bit-reversed order.
 ghost use mathlib.Core.Path.{_≡_};
+ghost use mathlib.Core.Bool.{true, false};
 ghost use Prim.Native.Nat.{_<_};
 ghost use mathlib.Core.List.{_∷_, []};
 ghost use Rattle.av1.specs.Network as Network;
@@ -44,14 +45,10 @@ fn lone(t: &mut [i32; 32], a: usize, b: usize, cos: i32, sin: i32, flip: bool)
 }
 
 // B of section 7.13.2.2.
-fn turn(t: &mut [i32; 32], tx64: bool, a: usize, b: usize, cos: i32, sin: i32, flip: bool)
-    requires { ⌜ Turnable tx64 (now t) a b cos sin ⌝ }
+fn turn(t: &mut [i32; 32], a: usize, b: usize, cos: i32, sin: i32, flip: bool)
+    requires { ⌜ Turnable (now t) a b cos sin ⌝ }
     ensures { λ _. ⌜ now (t .exit) ≡ Network.step exact (Network.B a b cos sin flip) (now (t .entry)) ⌝ }
 {
-    if tx64 {
-        lone(t, a, b, cos, sin, flip);
-        return;
-    }
     let x = t[a];
     let y = t[b];
     let u = dot(x, cos, y, -sin);
@@ -82,8 +79,8 @@ fn join(t: &mut [i32; 32], a: usize, b: usize, min: i32, max: i32) -> bool
 }
 
 // A stage of turns: `pairs` has a, b for each, `angles` cosine, sine.
-fn turns(t: &mut [i32; 32], tx64: bool, pairs: &[usize], angles: &[i32], flip: bool)
-    requires { ⌜ Stages.Turning tx64 flip (now pairs) (now angles) (now t) ⌝ }
+fn turns(t: &mut [i32; 32], pairs: &[usize], angles: &[i32], flip: bool)
+    requires { ⌜ Stages.Turning false flip (now pairs) (now angles) (now t) ⌝ }
     ensures { λ _. ⌜ now (t .exit) ≡ Network.run exact (Stages.turns flip (now (pairs .entry)) (now (angles .entry))) (now (t .entry)) ⌝ }
 {
     let mut i = 0;
@@ -92,9 +89,37 @@ fn turns(t: &mut [i32; 32], tx64: bool, pairs: &[usize], angles: &[i32], flip: b
         let b = pairs[i + 1];
         let cos = angles[i];
         let sin = angles[i + 1];
-        turn(&mut *t, tx64, a, b, cos, sin, flip);
+        turn(&mut *t, a, b, cos, sin, flip);
         i += 2;
     }
+}
+
+// The same where of each turn the element at the odd place is zero.
+fn lones(t: &mut [i32; 32], pairs: &[usize], angles: &[i32], flip: bool)
+    requires { ⌜ Stages.Turning true flip (now pairs) (now angles) (now t) ⌝ }
+    ensures { λ _. ⌜ now (t .exit) ≡ Network.run exact (Stages.turns flip (now (pairs .entry)) (now (angles .entry))) (now (t .entry)) ⌝ }
+{
+    let mut i = 0;
+    while i + 1 < pairs.len() {
+        let a = pairs[i];
+        let b = pairs[i + 1];
+        let cos = angles[i];
+        let sin = angles[i + 1];
+        lone(&mut *t, a, b, cos, sin, flip);
+        i += 2;
+    }
+}
+
+// The first turns of the inputs. Two loops, so that each becomes plain steps where the table is known, and no table is laid on the stack.
+fn first(t: &mut [i32; 32], tx64: bool, pairs: &[usize], angles: &[i32], flip: bool)
+    requires { ⌜ Stages.Turning tx64 flip (now pairs) (now angles) (now t) ⌝ }
+    ensures { λ _. ⌜ now (t .exit) ≡ Network.run exact (Stages.turns flip (now (pairs .entry)) (now (angles .entry))) (now (t .entry)) ⌝ }
+{
+    if tx64 {
+        lones(t, pairs, angles, flip);
+        return;
+    }
+    turns(t, pairs, angles, flip);
 }
 
 // A stage of butterflies: `pairs` has a, b for each.
@@ -122,8 +147,8 @@ pub fn dct4(t: &mut [i32; 32], tx64: bool, min: i32, max: i32) -> bool
     requires { ⌜ Stages.Ready tx64 (now t) min max ⌝ }
     ensures { λ r. ⌜ Stages.Through 1 min max (now (t .entry)) (now (t .exit)) r ⌝ }
 {
-    turns(&mut *t, tx64, &[0, 1], &[2896, 2896], true);
-    turns(&mut *t, tx64, &[2, 3], &[1567, 3784], false);
+    first(&mut *t, tx64, &[0, 1], &[2896, 2896], true);
+    first(&mut *t, tx64, &[2, 3], &[1567, 3784], false);
     joins(&mut *t, &[0, 3, 1, 2], min, max)
 }
 
@@ -133,7 +158,7 @@ pub fn dct8(t: &mut [i32; 32], tx64: bool, min: i32, max: i32) -> bool
     ensures { λ r. ⌜ Stages.Through 2 min max (now (t .entry)) (now (t .exit)) r ⌝ }
 {
     let half = dct4(&mut *t, tx64, min, max);
-    turns(
+    first(
         &mut *t,
         tx64,
         &[4, 7, 5, 6],
@@ -141,7 +166,7 @@ pub fn dct8(t: &mut [i32; 32], tx64: bool, min: i32, max: i32) -> bool
         false,
     );
     let odd = joins(&mut *t, &[4, 5, 7, 6], min, max);
-    turns(&mut *t, false, &[6, 5], &[2896, 2896], true);
+    turns(&mut *t, &[6, 5], &[2896, 2896], true);
     let last = joins(&mut *t, &[0, 7, 1, 6, 2, 5, 3, 4], min, max);
     half | odd | last
 }
@@ -162,23 +187,11 @@ pub fn dct16(t: &mut [i32; 32], tx64: bool, min: i32, max: i32) -> bool
     ensures { λ r. ⌜ Stages.Through 3 min max (now (t .entry)) (now (t .exit)) r ⌝ }
 {
     let half = dct8(&mut *t, tx64, min, max);
-    turns(&mut *t, tx64, &TURNS16, &ANGLES16, false);
+    first(&mut *t, tx64, &TURNS16, &ANGLES16, false);
     let odd = joins(&mut *t, &JOINS16, min, max);
-    turns(
-        &mut *t,
-        false,
-        &[14, 9, 13, 10],
-        &[1567, 3784, -3784, 1567],
-        true,
-    );
+    turns(&mut *t, &[14, 9, 13, 10], &[1567, 3784, -3784, 1567], true);
     let odd_a = joins(&mut *t, &JOINS16A, min, max);
-    turns(
-        &mut *t,
-        false,
-        &[13, 10, 12, 11],
-        &[2896, 2896, 2896, 2896],
-        true,
-    );
+    turns(&mut *t, &[13, 10, 12, 11], &[2896, 2896, 2896, 2896], true);
     let last = joins(&mut *t, &LAST16, min, max);
     half | odd | odd_a | last
 }
@@ -301,13 +314,13 @@ pub fn dct32(t: &mut [i32; 32], tx64: bool, min: i32, max: i32) -> bool
     ensures { λ r. ⌜ Stages.Through 4 min max (now (t .entry)) (now (t .exit)) r ⌝ }
 {
     let half = dct16(&mut *t, tx64, min, max);
-    turns(&mut *t, tx64, &TURNS32, &ANGLES32, false);
+    first(&mut *t, tx64, &TURNS32, &ANGLES32, false);
     let odd = joins(&mut *t, &JOINS32, min, max);
-    turns(&mut *t, false, &TURNS32A, &ANGLES32A, true);
+    turns(&mut *t, &TURNS32A, &ANGLES32A, true);
     let odd_a = joins(&mut *t, &JOINS32A, min, max);
-    turns(&mut *t, false, &TURNS32B, &ANGLES32B, true);
+    turns(&mut *t, &TURNS32B, &ANGLES32B, true);
     let odd_b = joins(&mut *t, &JOINS32B, min, max);
-    turns(&mut *t, false, &TURNS32C, &ANGLES32C, true);
+    turns(&mut *t, &TURNS32C, &ANGLES32C, true);
     let outer = joins(&mut *t, &OUTER32, min, max);
     let inner = joins(&mut *t, &INNER32, min, max);
     half | odd | odd_a | odd_b | outer | inner

@@ -27,11 +27,11 @@ m0 c = c .dct8 .result
 w0 : (c : tie.After-dct8) → Walk (s0 c) 13 (c .dct8 .last .0) (m0 c)
 w0 c = halved 2 (s0 c .fits .min) (s0 c .fits .max) (s0 c .pre) (c .dct8 .ensures)
 
-abbrev s1 : tie.After-turns → tie.Start
+abbrev s1 : tie.After-first → tie.Start
 s1 c = s0 (c .before .before .before .before)
 
-w1 : (c : tie.After-turns) → Walk (s1 c) 17 (c .turns .last .0) (m0 (c .before .before .before .before))
-w1 c = turned (w0 (c .before .before .before .before)) (steps 13 17) tt (c .turns .ensures)
+w1 : (c : tie.After-first) → Walk (s1 c) 17 (c .first .last .0) (m0 (c .before .before .before .before))
+w1 c = turned (w0 (c .before .before .before .before)) (steps 13 17) tt (c .first .ensures)
 
 abbrev s2 : tie.After-joins → tie.Start
 s2 c = s1 (c .before .before .before)
@@ -42,11 +42,11 @@ m2 c = m0 (c .before .before .before .before .before .before .before) || c .join
 w2 : (c : tie.After-joins) → Walk (s2 c) 21 (c .joins .last .0) (m2 c)
 w2 c = joined (w1 (c .before .before .before)) (steps 17 21) (c .joins .ensures)
 
-abbrev s3 : tie.After-turns2 → tie.Start
+abbrev s3 : tie.After-turns → tie.Start
 s3 c = s2 (c .before .before .before .before)
 
-w3 : (c : tie.After-turns2) → Walk (s3 c) 23 (c .turns2 .last .0) (m2 (c .before .before .before .before))
-w3 c = turned (w2 (c .before .before .before .before)) (steps 21 23) tt (c .turns2 .ensures)
+w3 : (c : tie.After-turns) → Walk (s3 c) 23 (c .turns .last .0) (m2 (c .before .before .before .before))
+w3 c = turned (w2 (c .before .before .before .before)) (steps 21 23) tt (c .turns .ensures)
 
 abbrev s4 : tie.After-joins2 → tie.Start
 s4 c = s3 (c .before .before .before)
@@ -57,11 +57,11 @@ m4 c = m2 (c .before .before .before .before .before .before .before) || c .join
 w4 : (c : tie.After-joins2) → Walk (s4 c) 27 (c .joins2 .last .0) (m4 c)
 w4 c = joined (w3 (c .before .before .before)) (steps 23 27) (c .joins2 .ensures)
 
-abbrev s5 : tie.After-turns3 → tie.Start
+abbrev s5 : tie.After-turns2 → tie.Start
 s5 c = s4 (c .before .before .before .before)
 
-w5 : (c : tie.After-turns3) → Walk (s5 c) 29 (c .turns3 .last .0) (m4 (c .before .before .before .before))
-w5 c = turned (w4 (c .before .before .before .before)) (steps 27 29) tt (c .turns3 .ensures)
+w5 : (c : tie.After-turns2) → Walk (s5 c) 29 (c .turns2 .last .0) (m4 (c .before .before .before .before))
+w5 c = turned (w4 (c .before .before .before .before)) (steps 27 29) tt (c .turns2 .ensures)
 
 returns : tie.Need-returns
 returns c =

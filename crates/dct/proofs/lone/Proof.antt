@@ -33,7 +33,7 @@ module _ (s : tie.Start) where
   β = 524288 ∷ 524288 ∷ 4095 ∷ 4095 ∷ []
 
   abbrev h : Within ρ β
-  h = (s .pre .x-small, (s .pre .y-small, (s .pre .cos-small, (s .pre .sin-small, tt))))
+  h = (s .pre .turnable .x-small, (s .pre .turnable .y-small, (s .pre .cos-less, (s .pre .sin-less, tt))))
 
   -- what a local that holds e is read back as
   is : (e : E) → T (ok β e w32) → toZ w32 (ofZ w32 (raw ρ e w32)) ≡ ev ρ e

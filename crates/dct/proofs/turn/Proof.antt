@@ -11,11 +11,9 @@ use mir.ValLaws.{toZ-ofZ}
 use borrow.Author.Needs.{needs}
 use Rattle.whole.specs.Numbers.{round2}
 use Rattle.whole.specs.Lists.{at}
-use Rattle.whole.proofs.Held.{to2}
 use Rattle.whole.proofs.Machine.{E, var, lit, _⊕_, _⊝_, _⊛_, Within, ok, raw, ev, need, reads, held-small, ring}
 use Rattle.av1.specs.Network.{B, step}
 use Rattle.av1.specs.Values.{exact, turnX, turnY}
-use Rattle.dct.specs.Fitting.{Lonely}
 use Rattle.dct.specs.Stages.{stored}
 use Rattle.dct.proofs.Alone.{turned-is}
 use Rattle.dct.proofs.turn.Statement.{statement}
@@ -34,20 +32,9 @@ h s = (s .pre .x-small, (s .pre .y-small, (s .pre .cos-small, (s .pre .sin-small
 abbrev less-sin : E
 less-sin = lit (pos 0) ⊝ var 3
 
--- one element alone
-lone-requires : tie.Need-lone-requires
-lone-requires c κs = let s = c .before .before in to2 (Lonely (s .args .t .now) (s .args .a) (s .args .b)) (s .fits .cos) (s .fits .sin) (s .pre .alone (c .before .if1 .taken))
-
-returns : tie.Need-returns
-returns c =
-    let s = c .before .before .before in
-    let cos = toZ-ofZ w32 (s .args .cos) (s .fits .cos) in
-    let sin = toZ-ofZ w32 (s .args .sin) (s .fits .sin) in
-    c .lone .ensures ∙ (λ i. step exact (B (s .args .a) (s .args .b) (cos i) (sin i) (s .args .flip)) (s .args .t .now))
-
 dot-requires : tie.Need-dot-requires
 dot-requires c κs =
-    let s = c .before .before .before in
+    let s = c .before .before in
     record {
       x-small = held-small (ρ s) β (h s) (var 0) w32 tt;
       p-small = held-small (ρ s) β (h s) (var 2) w32 tt;
@@ -60,7 +47,7 @@ is : (s : tie.Start) (e : E) → T (ok β e w32) → toZ w32 (ofZ w32 (raw (ρ s
 is s e t = reads (ρ s) β (h s) e w32 t
 
 abbrev start : tie.After-dot2 → tie.Start
-start c = c .before .before .before .before .before
+start c = c .before .before .before .before
 
 -- the two results
 first : (c : tie.After-dot2) → let s = start c in toZ w32 (ofZ w32 (c .before .dot .result)) ≡ turnX (s .args .cos) (s .args .sin) (at (s .args .t .now) (s .args .a)) (at (s .args .t .now) (s .args .b))
@@ -78,8 +65,8 @@ second c =
     ∙ c .dot2 .ensures
     ∙ (λ i. round2 (is s (var 0) tt i *ℤ is s (var 3) tt i +ℤ is s (var 1) tt i *ℤ is s (var 2) tt i) 12)
 
-returns-2 : tie.Need-returns-2
-returns-2 c =
+returns : tie.Need-returns
+returns c =
     let d = c .before .before in
     let s = start d in
     c .store .ensures ∙ (λ i. stored (s .args .a) (s .args .b) (s .args .flip) (first d i) (second d i) (s .args .t .now)) ∙ turned-is (s .args .a) (s .args .b) (s .args .cos) (s .args .sin) (s .args .flip) (s .args .t .now)
@@ -88,14 +75,12 @@ pub turn-spec : {M : Type 1} → statement M
 turn-spec =
     tie.close
     (tie.spec
-    lone-requires
-    returns
     (λ c. search needs)
     (λ c. search needs)
     (λ c. search needs)
     (λ c. search needs)
-    (λ c. let s = c .before .before .before in need (ρ s) β (h s) less-sin w32 tt)
+    (λ c. let s = c .before .before in need (ρ s) β (h s) less-sin w32 tt)
     dot-requires
     (λ c κs. search needs)
     (λ c κs. search needs)
-    returns-2)
+    returns)
