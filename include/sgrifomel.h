@@ -53,6 +53,8 @@ uint64_t sgrifomel_inv_identity4_1d(int32_t *c, size_t len, size_t stride, int32
 uint64_t sgrifomel_inv_identity8_1d(int32_t *c, size_t len, size_t stride, int32_t min, int32_t max);
 uint64_t sgrifomel_inv_identity16_1d(int32_t *c, size_t len, size_t stride, int32_t min, int32_t max);
 uint64_t sgrifomel_inv_identity32_1d(int32_t *c, size_t len, size_t stride, int32_t min, int32_t max);
+uint64_t sgrifomel_inv_adst4_1d(int32_t *c, size_t len, size_t stride, int32_t min, int32_t max);
+uint64_t sgrifomel_inv_flipadst4_1d(int32_t *c, size_t len, size_t stride, int32_t min, int32_t max);
 uint64_t sgrifomel_inv_wht4_1d(int32_t *c, size_t len, size_t stride);
 
 /* DCTs of half inputs: the upper half of the elements is taken as zero. It is not read, so number 14 looks at the lower half only;
@@ -67,12 +69,25 @@ uint64_t sgrifomel_inv_dct32_half_1d(int32_t *c, size_t len, size_t stride, int3
    coefficient of row y, column x is coeff[y + x * h] of coeff_len. dst and coeff may not overlap, and nothing else may touch
    either during the call. Every other value of the arguments is checked. The first w*h coefficients become 0. With DCT_DCT
    and eob 0 the plain call uses and clears the first alone. The live-row call takes rows r and later for zero rows. */
+/* A name has the column pass first, then the row pass. Types with an ADST or FLIPADST, and WHT_WHT, are for 4x4 only. */
 enum {
     SGRIFOMEL_DCT_DCT = 0,
-    SGRIFOMEL_IDTX = 9,
-    SGRIFOMEL_V_DCT = 10,  /* rows identity, columns DCT; where w*h is at most 128, and 16x16 */
-    SGRIFOMEL_H_DCT = 11,  /* rows DCT, columns identity; likewise */
-    SGRIFOMEL_WHT_WHT = 16 /* 4x4 only */
+    SGRIFOMEL_ADST_DCT = 1,
+    SGRIFOMEL_DCT_ADST = 2,
+    SGRIFOMEL_ADST_ADST = 3,
+    SGRIFOMEL_FLIPADST_DCT = 4,
+    SGRIFOMEL_DCT_FLIPADST = 5,
+    SGRIFOMEL_FLIPADST_FLIPADST = 6,
+    SGRIFOMEL_ADST_FLIPADST = 7,
+    SGRIFOMEL_FLIPADST_ADST = 8,
+    SGRIFOMEL_IDTX = 9,        /* identity in rows and columns */
+    SGRIFOMEL_V_DCT = 10,      /* rows identity, columns DCT; where w*h is at most 128, and 16x16 */
+    SGRIFOMEL_H_DCT = 11,      /* rows DCT, columns identity; likewise */
+    SGRIFOMEL_V_ADST = 12,     /* rows identity, columns ADST */
+    SGRIFOMEL_H_ADST = 13,     /* rows ADST, columns identity */
+    SGRIFOMEL_V_FLIPADST = 14, /* rows identity, columns FLIPADST */
+    SGRIFOMEL_H_FLIPADST = 15, /* rows FLIPADST, columns identity */
+    SGRIFOMEL_WHT_WHT = 16
 };
 
 uint64_t sgrifomel_inv_txfm_add(uint16_t *dst, size_t dst_len, uint32_t offset, int32_t stride, int32_t *coeff,

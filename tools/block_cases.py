@@ -9,6 +9,7 @@ coefficients, so accepted records are among those.
 import sys
 
 SIZES = {(4, 4), (4, 8), (8, 4), (4, 16), (8, 8), (8, 16), (16, 4), (16, 8), (16, 32), (32, 16), (8, 32), (16, 16), (32, 8), (32, 32)}
+ADST = (1, 2, 3, 4, 5, 6, 7, 8, 12, 13, 14, 15)
 ROW = {8: 32768, 10: 131072, 12: 524288}
 MOST = {8: 255, 10: 1023, 12: 4095}
 
@@ -125,6 +126,9 @@ for size in sorted(SIZES):
         p = [min(65535, 37 * i) for i in range(w * h)]
         if w * h <= 128:
             EMPTY.append(known(w, h, 9, depth, 2147483647, 0, p, [min(MOST[depth], v) for v in p]))
+for t in ADST:
+    p = [17 * i for i in range(16)]
+    EMPTY.append(known(4, 4, t, 8, t % 2, 0, p, p))
 FIRST = [dct, idtx, h_dct, v_dct, wht, eight, narrow, tall]
 
 
@@ -132,7 +136,7 @@ def refuse(r):
     """document 01's checks of a record whose size is right"""
     w, h, txtp, depth, eob, cs, ps = r
     small = w * h <= 128 or (w, h) == (16, 16)
-    if not (txtp in (0, 9) or (txtp in (10, 11) and small) or (txtp == 16 and (w, h) == (4, 4))):
+    if not (txtp in (0, 9) or (txtp in (10, 11) and small) or (txtp in (*ADST, 16) and (w, h) == (4, 4))):
         raise Refused(2)
     if depth not in ROW:
         raise Refused(3)
@@ -201,14 +205,15 @@ def refused():
             yield record(changed(dct, cs=one_of(cs, at, v)))           # 9
     yield record(changed(dct, depth=10, cs=one_of(cs, 3, 131072)))
     yield record(changed(dct, depth=12, cs=one_of(cs, 3, -524289)))
-    for t in (1, 8, 12, 15, 17, 4294967295):
+    for t in (17, 4294967295):
         yield record(changed(dct, txtp=t))                             # 2
-    yield record(changed(narrow, txtp=16))
+    for t in (1, 8, 12, 15, 16):
+        yield record(changed(narrow, txtp=t))
     for d in (0, 9, 16, 4294967295):
         yield record(changed(dct, depth=d))                            # 3
     # the first that applies: 19 before 2, 2 before 3, 3 before 9
-    yield record(changed(dct, txtp=1, ps=one_of(ps, 0, 70000)))
-    yield record(changed(dct, txtp=1, depth=9))
+    yield record(changed(dct, txtp=17, ps=one_of(ps, 0, 70000)))
+    yield record(changed(dct, txtp=17, depth=9))
     yield record(changed(dct, depth=9, cs=one_of(cs, 0, 32768)))
 
 

@@ -21,7 +21,7 @@ pub const SIZES: [(usize, usize); 14] = [
     (32, 16),
     (32, 32),
 ];
-pub const TYPES: [usize; 5] = [0, 9, 10, 11, 16];
+pub const TYPES: [usize; 17] = [0, 1, 2, 3, 4, 5, 6, 7, 8, 9, 10, 11, 12, 13, 14, 15, 16];
 pub const DEPTHS: [usize; 3] = [8, 10, 12];
 /// The range of a pass is -m..m-1 with one of these as m.
 pub const LIMITS: [i32; 3] = [32768, 131072, 524288];
@@ -31,7 +31,7 @@ pub fn has_type(w: usize, h: usize, txtp: usize) -> bool {
     match txtp {
         0 | 9 => true,
         10 | 11 => w * h <= 128 || (w, h) == (16, 16),
-        16 => (w, h) == (4, 4),
+        1..=8 | 12..=16 => (w, h) == (4, 4),
         _ => false,
     }
 }
@@ -55,6 +55,9 @@ pub fn pass_shapes() -> Vec<(Kind, usize, i32)> {
         for n in [4, 8, 16, 32] {
             shapes.extend(LIMITS.map(|m| (kind, n, m)));
         }
+    }
+    for kind in [Kind::Adst, Kind::FlipAdst] {
+        shapes.extend(LIMITS.map(|m| (kind, 4, m)));
     }
     shapes
 }

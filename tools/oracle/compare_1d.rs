@@ -27,6 +27,8 @@ fn got(call: &PassCall) -> (Answer, Vec<i32>) {
         (Kind::Identity, 8) => sgrifomel_inv_identity8_1d,
         (Kind::Identity, 16) => sgrifomel_inv_identity16_1d,
         (Kind::Identity, 32) => sgrifomel_inv_identity32_1d,
+        (Kind::Adst, 4) => sgrifomel_inv_adst4_1d,
+        (Kind::FlipAdst, 4) => sgrifomel_inv_flipadst4_1d,
         (Kind::Wht, 4) => wht4,
         (kind, n) => panic!("no {kind:?} of {n} points"),
     };

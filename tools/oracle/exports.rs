@@ -20,7 +20,9 @@ passes!(
     sgrifomel_inv_identity4_1d,
     sgrifomel_inv_identity8_1d,
     sgrifomel_inv_identity16_1d,
-    sgrifomel_inv_identity32_1d
+    sgrifomel_inv_identity32_1d,
+    sgrifomel_inv_adst4_1d,
+    sgrifomel_inv_flipadst4_1d
 );
 
 extern "C" {

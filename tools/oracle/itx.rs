@@ -101,6 +101,8 @@ pub enum Kind {
     Identity,
     Wht,
     HalfDct,
+    Adst,
+    FlipAdst,
 }
 
 impl Kind {
@@ -130,6 +132,8 @@ pub fn pass(kind: Kind, n: usize, c: &mut [i32], stride: usize, min: i32, max: i
         (Kind::Identity, 8) => rav1d_inv_identity8_1d_c,
         (Kind::Identity, 16) => rav1d_inv_identity16_1d_c,
         (Kind::Identity, 32) => rav1d_inv_identity32_1d_c,
+        (Kind::Adst, 4) => rav1d_inv_adst4_1d_c,
+        (Kind::FlipAdst, 4) => rav1d_inv_flipadst4_1d_c,
         (Kind::Wht, 4) => |c, stride, _, _| rav1d_inv_wht4_1d_c(c, stride),
         _ => panic!("no {kind:?} of {n} points"),
     };

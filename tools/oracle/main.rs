@@ -8,7 +8,7 @@ use std::env;
 use std::io::{self, Read, Write};
 use std::process::exit;
 
-const KINDS: [Kind; 4] = [Kind::Dct, Kind::Identity, Kind::Wht, Kind::HalfDct];
+const KINDS: [Kind; 6] = [Kind::Dct, Kind::Identity, Kind::Wht, Kind::HalfDct, Kind::Adst, Kind::FlipAdst];
 
 fn main() {
     let words: Vec<String> = env::args().skip(1).collect();
@@ -71,7 +71,7 @@ fn passes_done(bytes: &[u8]) -> Vec<u8> {
         let mut next = || words.next().unwrap_or_else(|| stop("the input ends inside a record"));
         let [n, stride, m, len] = [next(), next(), next(), next()];
         let call = PassCall {
-            kind: *KINDS.get(kind as usize).unwrap_or_else(|| stop("a kind above 3")),
+            kind: KINDS.into_iter().find(|&k| k as i32 == kind).unwrap_or_else(|| stop("there is no such kind")),
             n: n as usize,
             c: (0..len).map(|_| next()).collect(),
             stride: stride as usize,

@@ -2,3 +2,4 @@
 pub mod Related
 pub mod Known
 pub mod Unclipped
+pub mod Adst

@@ -1,4 +1,5 @@
 -- The one-dimensional inverse transforms of the AV1 specification, section 7.13.2, over whole numbers: no clip.
+use mathlib.Core.Bool.{Bool, cond}
 use mathlib.Core.List.{List, [], _∷_, map}
 use lib.IntN.{ℤ, pos, _+ℤ_, _-ℤ_, _*ℤ_}
 use Rattle.whole.specs.Numbers.{_>>_, round2}
@@ -31,3 +32,18 @@ av1-wht xs =
     let b′ = e -ℤ b in
     let c′ = e -ℤ c in
     (a′ -ℤ b′) ∷ b′ ∷ c′ ∷ (d′ +ℤ c′) ∷ []
+
+-- 7.13.2.6, the inverse ADST4, of a = T[0], b = T[1], c = T[2], d = T[3], as request E9 writes it
+unfoldable pub av1-adst4 : ℤ → ℤ → ℤ → ℤ → List ℤ
+av1-adst4 a b c d =
+    let p = a *ℤ pos 1321 +ℤ c *ℤ pos 3803 +ℤ d *ℤ pos 2482 in
+    let q = a *ℤ pos 2482 -ℤ c *ℤ pos 1321 -ℤ d *ℤ pos 3803 in
+    let s = b *ℤ pos 3344 in
+    round2 (p +ℤ s) 12 ∷ round2 (q +ℤ s) 12 ∷ round2 ((a -ℤ c +ℤ d) *ℤ pos 3344) 12 ∷ round2 (p +ℤ q -ℤ s) 12 ∷ []
+
+-- four numbers in order or, "FLIPADST stores its outputs in reverse order" (E9), backwards; 7.12.3 turns the block's rows or columns instead
+abbrev pub turned : Bool → List ℤ → List ℤ
+turned flip v = cond flip (at v 3 ∷ at v 2 ∷ at v 1 ∷ at v 0 ∷ []) v
+
+abbrev pub av1-adst : Bool → List ℤ → List ℤ
+av1-adst flip xs = turned flip (av1-adst4 (at xs 0) (at xs 1) (at xs 2) (at xs 3))

@@ -1,11 +1,11 @@
 -- What an accepted block gives the two ways, and what they leave is the outcome.
 use mathlib.Core.Path.{_≡_, refl, sym, ap, _∙_, subst}
-use mathlib.Core.Bool.{Bool, true, false, cond, _&&_, _||_}
+use mathlib.Core.Bool.{Bool, true, false, not, cond, _&&_, _||_}
 use mathlib.Core.List.{List}
 use Prim.Native.Nat.{ℕ, _*_, _≤_}
 use native.Mathlib.Omega.{arith}
 use borrow.Author.Tests.{ltb-false}
-use lib.Dec.{T, eqb, eqb→eq, leb, lit≤}
+use lib.Dec.{T, eqb}
 use lib.IntN.{ℤ}
 use lib.ListN.{length}
 use mir.Facts.{and-yes}
@@ -16,14 +16,17 @@ use Rattle.whole.proofs.Checks.{refuse≢accept, same-accept}
 use Rattle.whole.proofs.Clips.{inside-abs}
 use Rattle.whole.proofs.Counts.{first-none}
 use Rattle.itx_1d.specs.declared.Kind.{Kind}
-use Rattle.itx_1d.specs.declared.Kind.the-variants.{Dct, Identity, Wht}
+use Rattle.itx_1d.specs.declared.Kind.the-variants.{Wht}
+use Rattle.itx_1d.specs.Manners.{is-wht, four-only}
 use Rattle.itx_1d.specs.Calls.{acceptance}
 use Rattle.itx_1d.specs.Inner.{Lined}
+use Rattle.itx_1d.proofs.Manners.{wht-alone}
 use Rattle.bitdepth.specs.declared.Depth.{Depth}
 use Rattle.bitdepth.specs.Depths.{row-range}
 use Rattle.levels.specs.declared.Plan.{Plan}
-use Rattle.levels.specs.Plans.{among, shift-0, shift-1, shift-2, shift-of, kinds-of, where-small, plan}
+use Rattle.levels.specs.Plans.{among, shift-0, shift-1, shift-2, shift-of, Sizes, every, small, only-4x4, has, TxType, kinds-of, plan}
 use Rattle.levels.proofs.Sizes.{plan-of, plan-sided}
+use Rattle.levels.proofs.Types.{by-types}
 use Rattle.strided.specs.Planes.{in-pixels, rows-outside, lent}
 use Rattle.residual.specs.Blocks.{way}
 use Rattle.residual.specs.Inner.{Sized}
@@ -39,43 +42,47 @@ use Rattle.itx.proofs.Sameness.{opened}
 pub record Fitting (w h : ℕ) (k : Kind × Kind) : Type 0 where
   pub along : Lined (k .0) w
   pub down : Lined (k .1) h
-  pub both : k .0 ≡ Wht → k .1 ≡ Wht
+  pub both : T (is-wht (k .0)) → k .1 ≡ Wht
 
-abbrev tag : Kind → ℕ
-tag Dct = 0
-tag Identity = 1
-tag Wht = 2
+-- a pass of four points alone stands at 4x4 alone, and a WHT goes with another
+abbrev at-home : Sizes → Kind → Bool
+at-home only-4x4 k = true
+at-home small k = not (four-only k)
+at-home every k = not (four-only k)
 
-not-wht : {k : Kind} {A : Type 0} → tag k ≤ 1 → k ≡ Wht → A
-not-wht {k} l e = let t : tag k ≡ 2 = ap tag e in let f : ⊥ = omega (arith, l, t) in absurd f
+abbrev fits : TxType → Bool
+fits t = (at-home (t .sizes) (t .rows) && at-home (t .sizes) (t .columns)) && (not (is-wht (t .rows)) || is-wht (t .columns))
 
--- two kinds of which none is the WHT
-plainly : (w h : ℕ) (k : Kind × Kind) → Lined (k .0) w → Lined (k .1) h → tag (k .0) ≤ 1 → {j : Kind × Kind} → accept k ≡ accept j → Fitting w h j
-plainly w h k a d l {j} e = subst (Fitting w h) (same-accept k j e) (record { along = a; down = d; both = not-wht l })
+or-first : (a b : Bool) → T a → T (a || b)
+or-first true b t = tt
+or-first false b t = absurd t
 
-module _ (w h : ℕ) (k : Kind × Kind) where
-  smaller : (rows columns : Kind) → Lined rows w → Lined columns h → tag rows ≤ 1 → where-small w h rows columns ≡ accept k → Fitting w h k
-  smaller rows columns a d l = go (leb (w * h) 128 || (eqb w 16 && eqb h 16))
-    where
-      go : (t : Bool) → cond t (accept (rows, columns)) (refuse 2 0) ≡ accept k → Fitting w h k
-      go true e = plainly w h (rows, columns) a d l e
-      go false e = absurd (refuse≢accept 2 0 k e)
+or-second : (a b : Bool) → T b → T (a || b)
+or-second true b t = tt
+or-second false b t = t
 
-  pub fitting : (type : ℕ) → kinds-of w h type ≡ accept k → Fitting w h k
-  fitting type = go (eqb type 0) (eqb type 9) (eqb type 10) (eqb type 11) (eqb type 16 && (eqb w 4 && eqb h 4)) refl
-    where
-      go : (t₀ t₉ t₁₀ t₁₁ t₁₆ : Bool) → eqb type 16 && (eqb w 4 && eqb h 4) ≡ t₁₆
-          → cond t₀ (accept (Dct, Dct)) (cond t₉ (accept (Identity, Identity)) (cond t₁₀ (where-small w h Identity Dct) (cond t₁₁ (where-small w h Dct Identity) (cond t₁₆ (accept (Wht, Wht)) (refuse 2 0))))) ≡ accept k
-          → Fitting w h k
-      go true b c d f g e = plainly w h (Dct, Dct) tt tt (lit≤ tt) e
-      go false true c d f g e = plainly w h (Identity, Identity) tt tt (lit≤ tt) e
-      go false false true d f g e = smaller Identity Dct tt tt (lit≤ tt) e
-      go false false false true f g e = smaller Dct Identity tt tt (lit≤ tt) e
-      go false false false false true g e =
-          let u = and-yes (eqb type 16) (eqb w 4 && eqb h 4) (subst T (sym g) tt) in
-          let v = and-yes (eqb w 4) (eqb h 4) (u .1) in
-          subst (Fitting w h) (same-accept (Wht, Wht) k e) (record { along = eqb→eq w 4 (v .0); down = eqb→eq h 4 (v .1); both = λ q. refl })
-      go false false false false false g e = absurd (refuse≢accept 2 0 k e)
+module _ (w h : ℕ) where
+  lined : (s : Sizes) (k : Kind) → T (at-home s k) → T (has s w h) → Lined k w × Lined k h
+  lined only-4x4 k t e =
+      let v = and-yes (eqb w 4) (eqb h 4) e in
+      (or-second (not (four-only k)) (eqb w 4) (v .0), or-second (not (four-only k)) (eqb h 4) (v .1))
+  lined small k t e = (or-first (not (four-only k)) (eqb w 4) t, or-first (not (four-only k)) (eqb h 4) t)
+  lined every k t e = (or-first (not (four-only k)) (eqb w 4) t, or-first (not (four-only k)) (eqb h 4) t)
+
+  with-wht : (t : Bool) (k : Kind) → T (not t || is-wht k) → T t → k ≡ Wht
+  with-wht true k e f = wht-alone k e
+  with-wht false k e f = absurd f
+
+  of-type : (t : TxType) → T (fits t) → T (has (t .sizes) w h) → Fitting w h (t .rows, t .columns)
+  of-type t e f =
+      let a = and-yes (at-home (t .sizes) (t .rows) && at-home (t .sizes) (t .columns)) (not (is-wht (t .rows)) || is-wht (t .columns)) e in
+      let b = and-yes (at-home (t .sizes) (t .rows)) (at-home (t .sizes) (t .columns)) (a .0) in
+      record { along = lined (t .sizes) (t .rows) (b .0) f .0; down = lined (t .sizes) (t .columns) (b .1) f .1; both = with-wht (is-wht (t .rows)) (t .columns) (a .1) }
+
+  pub fitting : (k : Kind × Kind) (type : ℕ) → kinds-of w h type ≡ accept k → Fitting w h k
+  fitting k type =
+      by-types fits (λ c. c ≡ accept k → Fitting w h k) w h type (λ e. absurd (refuse≢accept 2 0 k e))
+      (λ t e f s. subst (Fitting w h) (same-accept (t .rows, t .columns) k s) (of-type t e f)) tt
 
 shift-most : (w h s : ℕ) → shift-of w h ≡ accept s → s ≤ 2
 shift-most w h s = go (among w h shift-0) (among w h shift-1) (among w h shift-2)

@@ -16,8 +16,8 @@ use Rattle.whole.proofs.Counts.{tab-ext, any-ext, any-upto}
 use Rattle.whole.proofs.Ranges.{zero-inside}
 use Rattle.av1.specs.Sides.{side}
 use Rattle.itx_1d.specs.declared.Kind.{Kind}
-use Rattle.itx_1d.specs.declared.Kind.the-variants.{Dct, Identity, Wht}
 use Rattle.itx_1d.specs.Passes.{Passed, pass}
+use Rattle.itx_1d.proofs.Manners.{split}
 use Rattle.itx_1d.proofs.PassLaws.{zeros, zero-pass, zero-unmarked}
 use Rattle.bitdepth.specs.declared.Depth.{Depth}
 use Rattle.bitdepth.specs.Depths.{row-range, column-range}
@@ -83,17 +83,13 @@ unfolding _>>_
 shift-zero = refl
 
 enter-zero : (k : Kind) (w h : ℕ) → if-wht k (pos 0 >> 2) (prescale w h (pos 0)) ≡ pos 0
-enter-zero Dct w h = prescale-zero w h
-enter-zero Identity w h = prescale-zero w h
-enter-zero Wht w h = shift-zero
+enter-zero k w h = split (λ z. z ≡ pos 0) k (pos 0 >> 2) (prescale w h (pos 0)) (λ t. shift-zero) (prescale-zero w h)
 
 clip-zero : (s m : ℕ) → clip (round2 (pos 0) s) (low m) (high m) ≡ pos 0
 clip-zero s m = ap (λ (z : ℤ). clip z (low m) (high m)) (round-zero s) ∙ clip-inside (pos 0) (low m) (high m) (zero-inside m)
 
 between-zero : (k : Kind) (s m : ℕ) → if-wht k (pos 0) (clip (round2 (pos 0) s) (low m) (high m)) ≡ pos 0
-between-zero Dct s m = clip-zero s m
-between-zero Identity s m = clip-zero s m
-between-zero Wht s m = refl
+between-zero k s m = split (λ z. z ≡ pos 0) k (pos 0) (clip (round2 (pos 0) s) (low m) (high m)) (λ t. refl) (clip-zero s m)
 
 pub quiet : (p : Plan) (d : Depth) → Sided (p .w) → Quiet (way p d)
 quiet p d e = record {

@@ -1,10 +1,10 @@
 -- A block's numbers, added to its pixels: what adding them asks, and what it leaves, whatever the length of the scratch block.
-use mathlib.Core.Path.{_≡_, refl, ap, _∙_, subst}
+use mathlib.Core.Path.{_≡_, refl, ap, _∙_, subst, subst⁻¹}
 use mathlib.Core.Bool.{Bool, false}
 use mathlib.Core.List.{List, _++_}
 use Prim.Native.Nat.{ℕ, zero, suc, _+_, _*_, _≤_}
 use native.Mathlib.Omega.{arith}
-use lib.Dec.{lit≤}
+use lib.Dec.{T, lit≤, eqb→eq}
 use lib.IntN.{ℤ, pos}
 use lib.ListN.{length, replicate, drop}
 use Rattle.whole.specs.Lists.{at}
@@ -12,6 +12,7 @@ use Rattle.levels.specs.declared.Plan.{Plan}
 use Rattle.levels.proofs.Sizes.{side-bounds}
 use Rattle.itx_1d.specs.declared.Kind.{Kind}
 use Rattle.itx_1d.specs.declared.Kind.the-variants.{Wht}
+use Rattle.itx_1d.specs.Manners.{is-wht}
 use Rattle.itx_1d.specs.Inner.{Lined}
 use Rattle.bitdepth.specs.declared.Depth.{Depth}
 use Rattle.bitdepth.specs.Depths.{maximum}
@@ -57,18 +58,18 @@ module _ {p : Plan} {d : Depth} {offset : ℕ} {stride : ℤ} {r : ℕ} {ps : Li
       }
 
 -- a plan whose rows are WHT4 is that of WHT_WHT
-pub is-wht : (p : Plan) → Sized p → p .rows ≡ Wht → p ≡ wht-plan (p .shift)
-is-wht p k e =
-    let both = k .wht-both e in
-    let wide : p .w ≡ 4 = subst (λ (q : Kind). Lined q (p .w)) e (k .row-length) in
-    let high : p .h ≡ 4 = subst (λ (q : Kind). Lined q (p .h)) both (k .column-length) in
+pub wht-planned : (p : Plan) → Sized p → p .rows ≡ Wht → p ≡ wht-plan (p .shift)
+wht-planned p k e =
+    let both = k .wht-both (subst⁻¹ (λ (q : Kind). T (is-wht q)) e tt) in
+    let wide = eqb→eq (p .w) 4 (subst (λ (q : Kind). Lined q (p .w)) e (k .row-length)) in
+    let high = eqb→eq (p .h) 4 (subst (λ (q : Kind). Lined q (p .h)) both (k .column-length)) in
     λ i. record { w = wide i; h = high i; shift = p .shift; rows = e i; columns = both i }
 
 -- whose shift no step takes
 pub any-shift : {shift offset : ℕ} {stride : ℤ} {ps : List ℕ} {c : List ℤ} → Ready (wht-plan shift) offset stride ps c → Ready (wht-plan 0) offset stride ps c
 any-shift a =
     record {
-      sized = record { width = refl; height = refl; shift-small = lit≤ tt; row-length = refl; column-length = refl; wht-both = λ e. refl };
+      sized = record { width = refl; height = refl; shift-small = lit≤ tt; row-length = tt; column-length = tt; wht-both = λ t. refl };
       coefs = record { count = a .coefs .count; small = a .coefs .small };
       inside = a .inside;
     }

@@ -10,8 +10,7 @@ use lib.Signed.{nonNeg}
 use Rattle.whole.specs.Numbers.{outside, low, high}
 use Rattle.whole.specs.Lists.{at, first}
 use Rattle.whole.specs.Checks.{Check, accept, refuse, then, unless, unless-at}
-use Rattle.itx_1d.specs.declared.Kind.{Kind}
-use Rattle.itx_1d.specs.declared.Kind.the-variants.{Dct, Identity, Wht}
+use Rattle.itx_1d.specs.Manners.{is-dct}
 use Rattle.itx_1d.specs.Calls.{Answer, refusal, acceptance}
 use Rattle.bitdepth.specs.declared.Depth.{Depth}
 use Rattle.bitdepth.specs.Depths.{depth, row-range, maximum}
@@ -77,11 +76,6 @@ pub record Outcome : Type 0 where
   pub answer : Answer
   pub pixels : List ℕ
   pub coefs : List ℤ
-
-abbrev pub is-dct : Kind → Bool
-is-dct Dct = true
-is-dct Identity = false
-is-dct Wht = false
 
 -- "DCT_DCT with eob 0"; the live-row call "never takes the shortcut"
 abbrev pub short : Call → Plan → Bool

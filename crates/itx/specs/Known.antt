@@ -1,6 +1,6 @@
 -- Document 01, "Known results": those marked *, and the one of request E4, as a list of cases. "Depth 8 and pixels all 100 where not said."
 use mathlib.Core.Path.{_≡_}
-use mathlib.Core.Bool.{Bool, true, false}
+use mathlib.Core.Bool.{Bool, true, false, cond}
 use mathlib.Core.List.{List, [], _∷_, _++_}
 use Prim.Native.Nat.{ℕ, _*_, _-_}
 use lib.IntN.{ℤ, pos, negℤ}
@@ -9,6 +9,7 @@ use Rattle.whole.specs.Numbers.{low, high}
 use Rattle.av1.specs.Sides.{Side, of4, of8, of16}
 use Rattle.itx_1d.specs.declared.Kind.{Kind}
 use Rattle.itx_1d.specs.declared.Kind.the-variants.{Dct, Identity, Wht}
+use Rattle.itx_1d.specs.Manners.{is-wht}
 use Rattle.itx_1d.specs.Calls as Passes
 use Rattle.strided.specs.Planes.{lent}
 use Rattle.itx.specs.Calls.{plain, Outcome, outcome}
@@ -33,9 +34,7 @@ pub data Result : Type 0 where
 
 -- a public pass at stride 1, with the range of depth 8; the WHT takes no range
 abbrev pub passed : Kind → Side → List ℤ → Passes.Outcome
-passed Dct n c = Passes.ranged Dct n c 1 (low 32768) (high 32768)
-passed Identity n c = Passes.ranged Identity n c 1 (low 32768) (high 32768)
-passed Wht n c = Passes.unranged c 1
+passed kind n c = cond (is-wht kind) (Passes.unranged c 1) (Passes.ranged kind n c 1 (low 32768) (high 32768))
 
 -- a plain call at depth 8, with coefficients c, 0, 0, .., over the block's own pixels and no others, all 100
 abbrev pub added : ℕ → ℕ → ℕ → ℕ → ℕ → Outcome

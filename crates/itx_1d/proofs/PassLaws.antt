@@ -1,6 +1,6 @@
 -- Laws of a pass, each for every kind and every length.
 use mathlib.Core.Path.{_≡_, refl, sym, ap, _∙_, subst⁻¹}
-use mathlib.Core.Bool.{true, false}
+use mathlib.Core.Bool.{true, false, cond}
 use mathlib.Core.List.{List, [], _∷_, map}
 use Prim.Native.Nat.{ℕ, zero, suc, _+_, _*_, _-_, _^_, _≤_}
 use native.Mathlib.Nat.{le-trans}
@@ -17,13 +17,15 @@ use Rattle.whole.proofs.Ranges.{zero-inside, range-abs, scaled, round-floor, sc
 use Rattle.av1.specs.Sides.{Side, of4, of8, of16, of32, len, bits}
 use Rattle.av1.specs.Network.{Alg, Step, B, H, step, run, brev, steps, permuted, dct}
 use Rattle.av1.specs.Values.{exact, clipped}
-use Rattle.av1.specs.Passes.{av1-identity, av1-wht}
+use Rattle.av1.specs.Passes.{av1-identity, av1-wht, av1-adst4, turned}
+use Rattle.av1.proofs.Adst.{adst-zero, adst-small}
 use Rattle.av1.proofs.Known as Known
 use Rattle.av1.proofs.Unclipped.{unclipped}
+use Rattle.itx_1d.specs.Manners.{four-only}
 use Rattle.itx_1d.specs.Passes.{Passed, identity, wht, pass, av1-pass}
 use Rattle.itx_1d.specs.Passes as Passes
 use Rattle.itx_1d.specs.declared.Kind.{Kind}
-use Rattle.itx_1d.specs.declared.Kind.the-variants.{Dct, Identity, Wht}
+use Rattle.itx_1d.specs.declared.Kind.the-variants.{Dct, Identity, Wht, Adst, FlipAdst}
 
 -- ---- one number first and nothing else
 
@@ -80,6 +82,11 @@ wht-zero : wht (pos 0) (pos 0) (pos 0) (pos 0) ≡ zeros 4
 unfolding wht _>>_
 wht-zero = refl
 
+-- a pass of the first four alone
+four-zeros : (n : ℕ) (f : ℤ → ℤ → ℤ → ℤ → List ℤ) → f (pos 0) (pos 0) (pos 0) (pos 0) ≡ zeros 4
+    → (x : ℕ) → at (f (at (zeros n) 0) (at (zeros n) 1) (at (zeros n) 2) (at (zeros n) 3)) x ≡ pos 0
+four-zeros n f e x = let z = zero-at n in (λ i. at (f (z 0 i) (z 1 i) (z 2 i) (z 3 i)) x) ∙ ap (λ (xs : List ℤ). at xs x) e ∙ zero-at 4 x
+
 module _ (n : Side) (m : ℕ) where
   dct-zero : pass Dct n m (zeros (len n)) ≡ record { values = zeros (len n); mark = false }
   unfolding round2 _>>_
@@ -91,15 +98,17 @@ module _ (n : Side) (m : ℕ) where
   unfolding pass
   zero-pass Dct x = ap (λ (p : Passed). at (p .values) x) dct-zero ∙ zero-at (len n) x
   zero-pass Identity x = identity-at n (zeros (len n)) x ∙ ap (identity n) (zero-at (len n) x) ∙ identity-zero n
-  zero-pass Wht x =
-      let z = zero-at (len n) in
-      (λ i. at (wht (z 0 i) (z 1 i) (z 2 i) (z 3 i)) x) ∙ ap (λ (xs : List ℤ). at xs x) wht-zero ∙ zero-at 4 x
+  zero-pass Wht x = four-zeros (len n) wht wht-zero x
+  zero-pass Adst x = four-zeros (len n) (λ a b c d. turned false (av1-adst4 a b c d)) (adst-zero false) x
+  zero-pass FlipAdst x = four-zeros (len n) (λ a b c d. turned true (av1-adst4 a b c d)) (adst-zero true) x
 
   pub zero-unmarked : (k : Kind) → pass k n m (zeros (len n)) .mark ≡ false
   unfolding pass
   zero-unmarked Dct = ap (λ (p : Passed). p .mark) dct-zero
   zero-unmarked Identity = refl
   zero-unmarked Wht = refl
+  zero-unmarked Adst = refl
+  zero-unmarked FlipAdst = refl
 
 -- ---- the specification
 
@@ -142,6 +151,8 @@ module _ (n : Side) (m : ℕ) (xs : List ℤ) where
   pass-av1 Dct e = unclipped (low m) (high m) (steps (bits n)) (permuted exact (bits n) xs) e
   pass-av1 Identity e = identity-av1
   pass-av1 Wht e = wht-av1
+  pass-av1 Adst e = refl
+  pass-av1 FlipAdst e = refl
 
 -- ---- how large, and how many
 
@@ -198,15 +209,16 @@ module _ (n : Side) (m : ℕ) (xs : List ℤ) where
   pass-small Dct k l h i = le-trans (range-abs m _ (dct-in-range i)) (omega arith)
   pass-small Identity k l h i = subst⁻¹ (λ (z : ℤ). natAbs z ≤ 5 * k + 2) (identity-at n xs i) (identity-small n (at xs i) k (h i))
   pass-small Wht k l h i = wht-small (at xs 0) (at xs 1) (at xs 2) (at xs 3) k (h 0, (h 1, (h 2, (h 3, tt)))) i
+  pass-small Adst k l h i = adst-small false xs k h i
+  pass-small FlipAdst k l h i = adst-small true xs k h i
 
-  -- the WHT has one length
   abbrev pub left : Kind → ℕ
-  left Dct = len n
-  left Identity = len n
-  left Wht = 4
+  left kind = cond (four-only kind) 4 (len n)
 
   pub pass-length : (kind : Kind) → length xs ≡ len n → length (pass kind n m xs .values) ≡ left kind
-  unfolding pass wht
+  unfolding pass wht Rattle.av1.specs.Passes.av1-adst4
   pass-length Dct e = dct-length (clipped (low m) (high m)) n xs
   pass-length Identity e = map-length (identity n) xs ∙ e
   pass-length Wht e = refl
+  pass-length Adst e = refl
+  pass-length FlipAdst e = refl

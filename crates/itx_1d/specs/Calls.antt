@@ -77,7 +77,7 @@ outcome-of c o (refuse n i) = record { answer = refusal n i; elements = c }
 abbrev pub judged : (List ℤ → Passed) → Side → ℕ → List ℤ → ℕ → ℤ → ℤ → Outcome
 judged f n looked c s lo hi = outcome-of c (accepted f n s c) (unless (bad-range lo hi) 11 (checks (len n) looked c s lo hi))
 
--- a DCT or identity
+-- every pass but the WHT
 unfoldable pub ranged : Kind → Side → List ℤ → ℕ → ℤ → ℤ → Outcome
 ranged kind n c s lo hi = judged (pass kind n (natAbs lo)) n (len n) c s lo hi
 

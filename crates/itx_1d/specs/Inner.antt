@@ -1,6 +1,6 @@
 -- What the inner functions ask and give: the public calls' definitions are in Calls.
 use mathlib.Core.Path.{_≡_}
-use mathlib.Core.Bool.{Bool, true, false, cond, _&&_}
+use mathlib.Core.Bool.{Bool, true, false, not, cond, _&&_, _||_}
 use mathlib.Core.List.{List, [], _∷_, _++_, map}
 use mathlib.Core.Option.{Option, none, some}
 use Prim.Native.Nat.{ℕ, zero, suc, _*_, _-_, _/_, _%_, _≤_, _<_}
@@ -14,7 +14,8 @@ use Rattle.dct.specs.Stages.{Through}
 use Rattle.itx_1d.specs.Passes.{Passed, identity, pass, lower}
 use Rattle.itx_1d.specs.Calls.{Outcome, taken, put, ranged, halved}
 use Rattle.itx_1d.specs.declared.Kind.{Kind}
-use Rattle.itx_1d.specs.declared.Kind.the-variants.{Dct, Identity, Wht}
+use Rattle.itx_1d.specs.declared.Kind.the-variants.{Dct}
+use Rattle.itx_1d.specs.Manners.{is-wht, is-dct, four-only}
 use Rattle.itx_1d.specs.declared.Found.{Found}
 use Rattle.itx_1d.specs.declared.Found.the-variants.{At, Nothing}
 use Rattle.itx_1d.specs.declared.Pass.{Pass}
@@ -113,36 +114,29 @@ pub record Open (before : Pass) (c : List ℤ) (n s : ℕ) : Type 0 where
 abbrev pub checked : Pass → List ℤ → ℕ → ℕ → ℕ → ℤ → ℤ → Pass
 checked before c n looked s lo hi = after (after before (place-check (eqb s 0) (leb (length c) ((n - 1) * s)))) (element-check (first looked (λ i. outside (at c (i * s)) lo hi)))
 
--- the largest element that a pass takes, and the length of a WHT
+-- the largest element that a pass takes, the length of one that has no other, and the range of one that clips to it
 abbrev pub most : Kind → ℕ
-most Dct = 524288
-most Identity = 524288
-most Wht = 16777216
+most kind = cond (is-wht kind) 16777216 524288
 
 abbrev pub Lined : Kind → ℕ → Type 0
-Lined Dct n = Unit {0}
-Lined Identity n = Unit {0}
-Lined Wht n = n ≡ 4
+Lined kind n = T (not (four-only kind) || eqb n 4)
 
 abbrev pub Limited : Kind → ℤ → ℤ → Type 0
-Limited Dct lo hi = Ranged lo hi
-Limited Identity lo hi = Unit {0}
-Limited Wht lo hi = Unit {0}
+Limited kind lo hi = T (is-dct kind) → Ranged lo hi
 
 pub record Passing (kind : Kind) (c : List ℤ) (n s : ℕ) (lo hi : ℤ) : Type 0 where
   pub lined : Lined kind n
   pub limited : Limited kind lo hi
   pub able : Passable c s n (most kind)
 
--- a call that takes a range: a DCT or an identity, of one of the four lengths; with `tx64` a DCT, of the lower half
+-- a call that takes a range, of a length that its pass has; with `tx64` a DCT, of the lower half
 abbrev pub takes-range : Kind → Bool
-takes-range Dct = true
-takes-range Identity = true
-takes-range Wht = false
+takes-range kind = not (is-wht kind)
 
 pub record Callable (kind : Kind) (n : ℕ) : Type 0 where
   pub range : T (takes-range kind)
   pub is-length : len (side n) ≡ n
+  pub lined : Lined kind n
 
 abbrev pub called : Bool → Kind → Side → List ℤ → ℕ → ℤ → ℤ → Outcome
 called true kind n = halved n

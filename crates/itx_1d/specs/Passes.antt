@@ -1,5 +1,5 @@
 -- One-dimensional passes: document 01, "One-dimensional passes", with the mark of request E4; and section 7.13.2 of the AV1 specification by kind.
-use mathlib.Core.Bool.{Bool, false, cond}
+use mathlib.Core.Bool.{Bool, true, false, cond}
 use mathlib.Core.List.{List, [], _∷_, map}
 use Prim.Native.Nat.{ℕ, _/_}
 use lib.Dec.{ltb}
@@ -9,9 +9,9 @@ use Rattle.whole.specs.Lists.{at, tab}
 use Rattle.av1.specs.Sides.{Side, of4, of8, of16, of32, len, bits}
 use Rattle.av1.specs.Network.{permuted, steps, run}
 use Rattle.av1.specs.Values.{clipped, hits}
-use Rattle.av1.specs.Passes.{av1-dct, av1-identity, av1-wht}
+use Rattle.av1.specs.Passes.{av1-dct, av1-identity, av1-wht, av1-adst}
 use Rattle.itx_1d.specs.declared.Kind.{Kind}
-use Rattle.itx_1d.specs.declared.Kind.the-variants.{Dct, Identity, Wht}
+use Rattle.itx_1d.specs.declared.Kind.the-variants.{Dct, Identity, Wht, Adst, FlipAdst}
 
 -- what a pass leaves, and its mark
 pub record Passed : Type 0 where
@@ -43,11 +43,13 @@ wht a b c d =
     let t1 = t4 -ℤ b in
     (t0 -ℤ t3) ∷ t3 ∷ t1 ∷ (t2 +ℤ t1) ∷ []
 
--- a pass by kind and length, with the range -m .. m - 1: "WHT and identity never raise" the mark
+-- a pass by kind and length, with the range -m .. m - 1: "WHT and identity never raise" the mark, and "The mark ignores ADST steps" (E9)
 unfoldable pub pass : Kind → Side → ℕ → List ℤ → Passed
 pass Dct n m xs = dct n m xs
 pass Identity n m xs = record { values = map (identity n) xs; mark = false }
 pass Wht n m xs = record { values = wht (at xs 0) (at xs 1) (at xs 2) (at xs 3); mark = false }
+pass Adst n m xs = record { values = av1-adst false xs; mark = false }
+pass FlipAdst n m xs = record { values = av1-adst true xs; mark = false }
 
 -- the lower half of n elements with g's in the upper half; and "with the upper half set to zero" (E13)
 abbrev pub filled : (ℕ → ℤ) → Side → List ℤ → List ℤ
@@ -61,3 +63,5 @@ abbrev pub av1-pass : Kind → Side → List ℤ → List ℤ
 av1-pass Dct n xs = av1-dct n xs
 av1-pass Identity n xs = map (av1-identity n) xs
 av1-pass Wht n xs = av1-wht xs
+av1-pass Adst n xs = av1-adst false xs
+av1-pass FlipAdst n xs = av1-adst true xs

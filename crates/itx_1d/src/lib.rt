@@ -1,4 +1,4 @@
-// The one-dimensional passes of src/itx_1d.rs: DCT, identity and WHT on elements 0, s, 2s, .. of a lent slice.
+// The one-dimensional passes of src/itx_1d.rs: DCT, identity, WHT and ADST on elements 0, s, 2s, .. of a lent slice.
 ghost use mathlib.Core.Path.{_≡_};
 ghost use mathlib.Core.Bool as Bool;
 ghost use mathlib.Core.Option.{Option};
@@ -9,10 +9,13 @@ ghost use lib.ListN.{length, replicate};
 ghost use Rattle.whole.specs.Numbers as Numbers;
 ghost use Rattle.whole.specs.Lists.{at, first};
 ghost use Rattle.av1.specs.Sides.{of4, of8, of16, of32, len, bits, side};
+ghost use Rattle.av1.specs.Passes.{av1-adst};
 ghost use Rattle.dct.specs.Stages as Stages;
 ghost use Rattle.itx_1d.specs.Passes as Passes;
 ghost use Rattle.itx_1d.specs.Calls as Calls;
 ghost use Rattle.itx_1d.specs.Inner as Inner;
+use adst::Four;
+use adst::adst4;
 use dct::dct4;
 use dct::dct8;
 use dct::dct16;
@@ -24,6 +27,8 @@ pub enum Kind {
     Dct,
     Identity,
     Wht,
+    Adst,
+    FlipAdst,
 }
 
 // What a public pass answers (document 01, "Numbers of refusal", 11 to 14).
@@ -180,6 +185,22 @@ pub fn wht4(c: &mut [i32], stride: usize)
     c[3 * stride] = o3;
 }
 
+// inv_adst4_1d_internal_c: an ADST or, backwards, a FLIPADST.
+fn adst(c: &mut [i32], stride: usize, backwards: bool)
+    requires { ⌜ Inner.Passable (now c) stride 4 524288 ⌝ }
+    ensures { λ _. ⌜ now (c .exit) ≡ Calls.put (now (c .entry)) stride (av1-adst backwards (Calls.taken (now (c .entry)) stride 4)) 4 ⌝ }
+{
+    let in0 = c[0 * stride];
+    let in1 = c[1 * stride];
+    let in2 = c[2 * stride];
+    let in3 = c[3 * stride];
+    let Four(out0, out1, out2, out3) = adst4(in0, in1, in2, in3, backwards);
+    c[0 * stride] = out0;
+    c[1 * stride] = out1;
+    c[2 * stride] = out2;
+    c[3 * stride] = out3;
+}
+
 // Number 11.
 fn check_range(min: i32, max: i32) -> Pass
     ensures { λ r. ⌜ r ≡ Inner.range-check (Calls.bad-range min max) ⌝ }
@@ -276,6 +297,14 @@ pub fn inv_1d(kind: Kind, c: &mut [i32], n: usize, stride: usize, min: i32, max:
             wht4(c, stride);
             false
         }
+        Kind::Adst => {
+            adst(c, stride, false);
+            false
+        }
+        Kind::FlipAdst => {
+            adst(c, stride, true);
+            false
+        }
     }
 }
 
@@ -286,7 +315,7 @@ fn looked(n: usize, tx64: bool) -> usize
     if tx64 { n / 2 } else { n }
 }
 
-// A DCT or an identity with its checks; with `tx64` a DCT of the lower half of its inputs.
+// A pass that takes a range, with its checks; with `tx64` a DCT of the lower half of its inputs.
 fn ranged(
     kind: Kind,
     tx64: bool,
@@ -383,6 +412,18 @@ pub fn inv_identity32_1d(c: &mut [i32], stride: usize, min: i32, max: i32) -> Pa
     ensures { λ r. ⌜ Calls.Meets (Calls.ranged Kind.Identity of32 (now (c .entry)) stride min max) r (now (c .exit)) ⌝ }
 {
     ranged(Kind::Identity, false, c, 32, stride, min, max)
+}
+
+pub fn inv_adst4_1d(c: &mut [i32], stride: usize, min: i32, max: i32) -> Pass
+    ensures { λ r. ⌜ Calls.Meets (Calls.ranged Kind.Adst of4 (now (c .entry)) stride min max) r (now (c .exit)) ⌝ }
+{
+    ranged(Kind::Adst, false, c, 4, stride, min, max)
+}
+
+pub fn inv_flipadst4_1d(c: &mut [i32], stride: usize, min: i32, max: i32) -> Pass
+    ensures { λ r. ⌜ Calls.Meets (Calls.ranged Kind.FlipAdst of4 (now (c .entry)) stride min max) r (now (c .exit)) ⌝ }
+{
+    ranged(Kind::FlipAdst, false, c, 4, stride, min, max)
 }
 
 pub fn inv_wht4_1d(c: &mut [i32], stride: usize) -> Pass

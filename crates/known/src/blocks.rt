@@ -1,4 +1,4 @@
-// The two-dimensional calls: document 01, "Known results", and both sides of numbers 1 to 10.
+// The two-dimensional calls: document 01, "Known results", four blocks of request E9's types, and both sides of numbers 1 to 10.
 ghost use Prim.Native.Nat.{_<_};
 use crate::show;
 use itx::Answer;
@@ -79,6 +79,31 @@ fn of_4x4() {
     first_of_4x4(8, 0, 16, 8);
 }
 
+// Coefficients in rows 0 and 1 alone.
+fn two_rows() -> [i32; 16] {
+    let mut c = [0i32; 16];
+    c[0] = 400;
+    c[1] = -300;
+    c[5] = 250;
+    c[8] = -180;
+    c[13] = 320;
+    c
+}
+
+fn adst_of_4x4(eob: i32, txtp: usize, depth: usize) {
+    let mut c = two_rows();
+    plain(&mut [100u16; 16], 0, 8, &mut c, eob, 4, 4, txtp, depth);
+}
+
+// An ADST in the columns, in both and in the rows; the last by the live-row call.
+fn of_adst() {
+    adst_of_4x4(0, 1, 8);
+    adst_of_4x4(1, 8, 10);
+    adst_of_4x4(1, 15, 12);
+    let mut c = two_rows();
+    live(&mut [100u16; 16], 0, 8, &mut c, 2, 4, 4, 6, 8);
+}
+
 fn of_8x8(eob: i32) {
     let mut c = [0i32; 64];
     c[0] = 1000;
@@ -138,11 +163,14 @@ fn numbers_1_to_3() {
     kinds(0, 4, 9, 8);
     kinds(64, 64, 9, 8);
     kinds(4, 32, 99, 9);
-    kinds(4, 4, 1, 8);
+    kinds(8, 8, 1, 8);
+    kinds(4, 8, 8, 8);
+    kinds(8, 4, 15, 8);
     kinds(4, 4, 17, 8);
     kinds(4, 8, 16, 8);
     kinds(8, 32, 10, 8);
     kinds(8, 32, 11, 8);
+    kinds(4, 4, 17, 9);
     kinds(4, 4, 1, 9);
     kinds(4, 4, 9, 9);
     kinds(4, 4, 9, 0);
@@ -248,6 +276,7 @@ fn number_10() {
 
 pub fn all() {
     of_4x4();
+    of_adst();
     of_8x8(0);
     of_8x8(1);
     tall(0);

@@ -1,3 +1,4 @@
 -- Laws of the plan.
 pub mod Sizes
 pub mod Unique
+pub mod Types

@@ -1,16 +1,40 @@
 // The type numbers of src/levels.rs, and the decision on size and type that inv_txfm_add_rust makes.
 ghost use mathlib.Core.Path.{_≡_};
 ghost use Prim.Native.Nat.{_≤_};
-ghost use Rattle.levels.specs.Plans.{decision-of, shift-check, shift-of, kinds-check, where-small, kinds-of, plan};
+ghost use Rattle.levels.specs.Plans.{decision-of, shift-check, shift-of, kinds-check, small, only-4x4, kinds-at, kinds-of, plan};
 use itx_1d::Kind;
 
 pub const DCT_DCT: usize = 0;
+
+pub const ADST_DCT: usize = 1;
+
+pub const DCT_ADST: usize = 2;
+
+pub const ADST_ADST: usize = 3;
+
+pub const FLIPADST_DCT: usize = 4;
+
+pub const DCT_FLIPADST: usize = 5;
+
+pub const FLIPADST_FLIPADST: usize = 6;
+
+pub const ADST_FLIPADST: usize = 7;
+
+pub const FLIPADST_ADST: usize = 8;
 
 pub const IDTX: usize = 9;
 
 pub const V_DCT: usize = 10;
 
 pub const H_DCT: usize = 11;
+
+pub const V_ADST: usize = 12;
+
+pub const H_ADST: usize = 13;
+
+pub const V_FLIPADST: usize = 14;
+
+pub const H_FLIPADST: usize = 15;
 
 pub const WHT_WHT: usize = 16;
 
@@ -72,7 +96,7 @@ pub fn size_shift(w: usize, h: usize) -> SizeCheck
 // V_DCT and H_DCT are not for every size.
 fn mixed(w: usize, h: usize, rows: Kind, columns: Kind) -> TypeCheck
     requires { ⌜ (w ≤ 32) × (h ≤ 32) ⌝ }
-    ensures { λ r. ⌜ kinds-check r ≡ where-small w h rows columns ⌝ }
+    ensures { λ r. ⌜ kinds-check r ≡ kinds-at small w h rows columns ⌝ }
 {
     match w * h {
         0..=128 => TypeCheck::Kinds(rows, columns),
@@ -86,22 +110,41 @@ fn mixed(w: usize, h: usize, rows: Kind, columns: Kind) -> TypeCheck
     }
 }
 
+// Types of passes that have four points alone.
+fn at_4x4(w: usize, h: usize, rows: Kind, columns: Kind) -> TypeCheck
+    ensures { λ r. ⌜ kinds-check r ≡ kinds-at only-4x4 w h rows columns ⌝ }
+{
+    match w {
+        4 => match h {
+            4 => TypeCheck::Kinds(rows, columns),
+            _ => TypeCheck::NoKinds,
+        },
+        _ => TypeCheck::NoKinds,
+    }
+}
+
 fn type_kinds(w: usize, h: usize, txtp: usize) -> TypeCheck
     requires { ⌜ (w ≤ 32) × (h ≤ 32) ⌝ }
     ensures { λ r. ⌜ kinds-check r ≡ kinds-of w h txtp ⌝ }
 {
     match txtp {
         DCT_DCT => TypeCheck::Kinds(Kind::Dct, Kind::Dct),
+        ADST_DCT => at_4x4(w, h, Kind::Dct, Kind::Adst),
+        DCT_ADST => at_4x4(w, h, Kind::Adst, Kind::Dct),
+        ADST_ADST => at_4x4(w, h, Kind::Adst, Kind::Adst),
+        FLIPADST_DCT => at_4x4(w, h, Kind::Dct, Kind::FlipAdst),
+        DCT_FLIPADST => at_4x4(w, h, Kind::FlipAdst, Kind::Dct),
+        FLIPADST_FLIPADST => at_4x4(w, h, Kind::FlipAdst, Kind::FlipAdst),
+        ADST_FLIPADST => at_4x4(w, h, Kind::FlipAdst, Kind::Adst),
+        FLIPADST_ADST => at_4x4(w, h, Kind::Adst, Kind::FlipAdst),
         IDTX => TypeCheck::Kinds(Kind::Identity, Kind::Identity),
         V_DCT => mixed(w, h, Kind::Identity, Kind::Dct),
         H_DCT => mixed(w, h, Kind::Dct, Kind::Identity),
-        WHT_WHT => match w {
-            4 => match h {
-                4 => TypeCheck::Kinds(Kind::Wht, Kind::Wht),
-                _ => TypeCheck::NoKinds,
-            },
-            _ => TypeCheck::NoKinds,
-        },
+        V_ADST => at_4x4(w, h, Kind::Identity, Kind::Adst),
+        H_ADST => at_4x4(w, h, Kind::Adst, Kind::Identity),
+        V_FLIPADST => at_4x4(w, h, Kind::Identity, Kind::FlipAdst),
+        H_FLIPADST => at_4x4(w, h, Kind::FlipAdst, Kind::Identity),
+        WHT_WHT => at_4x4(w, h, Kind::Wht, Kind::Wht),
         _ => TypeCheck::NoKinds,
     }
 }

@@ -44,6 +44,20 @@ fn run_identity(c: &mut [i32], n: u32, stride: usize, min: i32, max: i32) -> Ran
     }
 }
 
+fn run_adst(c: &mut [i32], n: u32, stride: usize, min: i32, max: i32) -> Ran {
+    match n {
+        4 => Ran::Answer(sgrifomel::sgrifomel_inv_adst4_1d(c, stride, min, max)),
+        _ => Ran::NoPass,
+    }
+}
+
+fn run_flipadst(c: &mut [i32], n: u32, stride: usize, min: i32, max: i32) -> Ran {
+    match n {
+        4 => Ran::Answer(sgrifomel::sgrifomel_inv_flipadst4_1d(c, stride, min, max)),
+        _ => Ran::NoPass,
+    }
+}
+
 fn run(kind: u32, c: &mut [i32], n: u32, stride: usize, min: i32, max: i32) -> Ran {
     match kind {
         0 => run_dct(c, n, stride, min, max),
@@ -53,6 +67,8 @@ fn run(kind: u32, c: &mut [i32], n: u32, stride: usize, min: i32, max: i32) -> R
             _ => Ran::NoPass,
         },
         3 => run_half(c, n, stride, min, max),
+        4 => run_adst(c, n, stride, min, max),
+        5 => run_flipadst(c, n, stride, min, max),
         _ => Ran::NoPass,
     }
 }

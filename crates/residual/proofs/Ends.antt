@@ -11,7 +11,6 @@ use mir.ValLaws.{toZ-ofZ}
 use Rattle.whole.specs.Numbers.{low, high}
 use Rattle.whole.proofs.Sizes.{abs-fits}
 use Rattle.itx_1d.specs.declared.Kind.{Kind}
-use Rattle.itx_1d.specs.declared.Kind.the-variants.{Dct, Identity, Wht}
 use Rattle.itx_1d.specs.Inner.{Limited}
 use Rattle.bitdepth.specs.declared.Depth.{Depth}
 use Rattle.bitdepth.specs.declared.Depth.the-variants.{Eight, Ten, Twelve}
@@ -44,9 +43,7 @@ module _ {m : ℕ} (g : Reach m) where
   high-held = let l : m - 1 ≤ 524288 = omega (arith, g .small) in toZ-ofZ w32 (high m) (abs-fits {n = 524288} l tt)
 
   pub limited : (k : Kind) → Limited k (low m) (high m)
-  limited Dct = record { low-is = ap low (sym size); high-is = ap high (sym size); small = subst⁻¹ (λ (n : ℕ). n ≤ 524288) size (g .small) }
-  limited Identity = tt
-  limited Wht = tt
+  limited k t = record { low-is = ap low (sym size); high-is = ap high (sym size); small = subst⁻¹ (λ (n : ℕ). n ≤ 524288) size (g .small) }
 
   -- the ends that a local range holds
   module _ {r : Range} (e : r ≡ ends m) where

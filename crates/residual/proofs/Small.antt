@@ -12,9 +12,8 @@ use Rattle.whole.proofs.Clips.{clip-abs}
 use Rattle.whole.proofs.Machine.{var, lit, _⊕_, _⊛_, _≫_, bound}
 use Rattle.levels.specs.declared.Plan.{Plan}
 use Rattle.itx_1d.specs.declared.Kind.{Kind}
-use Rattle.itx_1d.specs.declared.Kind.the-variants.{Dct, Identity, Wht}
-use Rattle.itx_1d.specs.Inner.{most}
-use Rattle.residual.specs.Blocks.{if-wht, prescale}
+use Rattle.itx_1d.proofs.Manners.{split}
+use Rattle.residual.specs.Blocks.{prescale}
 use Rattle.residual.specs.Inner.{entering}
 
 prescaled : (w h : ℕ) (v : ℤ) → natAbs v ≤ 524288 → natAbs (prescale w h v) ≤ 524288
@@ -25,11 +24,12 @@ prescaled w h v l = go (eqb (w * 2) h || eqb (h * 2) w)
     go true = le-trans (bound (v ∷ []) (524288 ∷ []) (l, tt) (var 0 ⊛ lit (pos 181) ⊕ lit (pos 128) ≫ 8)) (lit≤ tt)
     go false = l
 
-pub entering-small : (k : Kind) (w h : ℕ) (v : ℤ) → natAbs v ≤ 524288 → natAbs (entering k w h v) ≤ 524288
+quartered : (v : ℤ) → natAbs v ≤ 524288 → natAbs (v >> 2) ≤ 524288
 unfolding Rattle.whole.specs.Numbers._>>_
-entering-small Wht w h v l = le-trans (bound (v ∷ []) (524288 ∷ []) (l, tt) (var 0 ≫ 2)) (lit≤ tt)
-entering-small Dct w h v l = prescaled w h v l
-entering-small Identity w h v l = prescaled w h v l
+quartered v l = le-trans (bound (v ∷ []) (524288 ∷ []) (l, tt) (var 0 ≫ 2)) (lit≤ tt)
+
+pub entering-small : (k : Kind) (w h : ℕ) (v : ℤ) → natAbs v ≤ 524288 → natAbs (entering k w h v) ≤ 524288
+entering-small k w h v l = split (λ z. natAbs z ≤ 524288) k (v >> 2) (prescale w h v) (λ t. quartered v l) (prescaled w h v l)
 
 pub rounded-small : (v : ℤ) (k : ℕ) → natAbs v ≤ 524288 → k ≤ 2 → natAbs (round2 v k) ≤ 524288
 unfolding Rattle.whole.specs.Numbers.round2 Rattle.whole.specs.Numbers._>>_
@@ -37,8 +37,3 @@ rounded-small v zero l g = l
 rounded-small v (suc zero) l g = le-trans (bound (v ∷ []) (524288 ∷ []) (l, tt) (var 0 ⊕ lit (pos 1) ≫ 1)) (lit≤ tt)
 rounded-small v (suc (suc zero)) l g = le-trans (bound (v ∷ []) (524288 ∷ []) (l, tt) (var 0 ⊕ lit (pos 2) ≫ 2)) (lit≤ tt)
 rounded-small v (suc (suc (suc k))) l g = omega (arith, g)
-
-pub at-most : (k : Kind) → 524288 ≤ most k
-at-most Dct = lit≤ tt
-at-most Identity = lit≤ tt
-at-most Wht = lit≤ tt

@@ -15,20 +15,20 @@ use Rattle.whole.proofs.Clips.{clip-abs}
 use Rattle.whole.proofs.Counts.{tab-ext, any-ext}
 use Rattle.av1.specs.Sides.{side}
 use Rattle.itx_1d.specs.declared.Kind.{Kind}
-use Rattle.itx_1d.specs.declared.Kind.the-variants.{Dct, Identity, Wht}
 use Rattle.itx_1d.specs.Passes.{Passed, pass}
 use Rattle.itx_1d.specs.Inner.{most}
+use Rattle.itx_1d.proofs.Manners.{split, at-most}
 use Rattle.itx_1d.proofs.PassLaws.{pass-small}
 use Rattle.itx_1d.proofs.Strides.{not-0}
 use Rattle.bitdepth.specs.declared.Depth.{Depth}
 use Rattle.bitdepth.specs.declared.Depth.the-variants.{Eight, Ten, Twelve}
 use Rattle.bitdepth.specs.Depths.{row-range, column-range}
 use Rattle.levels.specs.declared.Plan.{Plan}
-use Rattle.residual.specs.Blocks.{way, row, middle, column, marked, if-wht}
+use Rattle.residual.specs.Blocks.{way, row, middle, column, marked}
 use Rattle.residual.specs.Inner.{fill, rounding, loaded, row-made, RowsAreIn, HoldsIn, column-made, ColumnsAreIn, Sized, Coefs, ResolvedIn}
 use Rattle.residual.proofs.Fills.{fill-after, fill-own}
 use Rattle.residual.proofs.Places.{by-row, by-column}
-use Rattle.residual.proofs.Small.{entering-small, at-most}
+use Rattle.residual.proofs.Small.{entering-small}
 
 -- ---- sizes
 
@@ -105,12 +105,10 @@ module _ {n : ℕ} (p : Plan) (d : Depth) (c : List ℤ) (r : ℕ) (t₁ t₂ t�
         go Twelve = clip-abs z (low 131072) (high 131072) (lit≤ tt) (lit≤ tt)
 
     between-small : (z : ℤ) → natAbs z ≤ 2621442 → (natAbs (between z) ≤ 2621442) × (natAbs (between z) ≤ most (p .columns))
-    between-small z l = go (p .rows) (p .columns) (sized .wht-both)
-      where
-        go : (k j : Kind) → (k ≡ Wht → j ≡ Wht) → (natAbs (if-wht k z (clip (round2 z (p .shift)) (low (column-range d)) (high (column-range d)))) ≤ 2621442) × (natAbs (if-wht k z (clip (round2 z (p .shift)) (low (column-range d)) (high (column-range d)))) ≤ most j)
-        go Wht j f = (l, subst⁻¹ (λ (i : Kind). natAbs z ≤ most i) (f refl) (le-trans l (lit≤ tt)))
-        go Dct j f = let b = ends-small (round2 z (p .shift)) in (le-trans b (lit≤ tt), le-trans b (at-most j))
-        go Identity j f = let b = ends-small (round2 z (p .shift)) in (le-trans b (lit≤ tt), le-trans b (at-most j))
+    between-small z l =
+        let b = ends-small (round2 z (p .shift)) in
+        split (λ v. (natAbs v ≤ 2621442) × (natAbs v ≤ most (p .columns))) (p .rows) z (clip (round2 z (p .shift)) (low (column-range d)) (high (column-range d)))
+        (λ t. (l, subst⁻¹ (λ (i : Kind). natAbs z ≤ most i) (sized .wht-both t) (le-trans l (lit≤ tt)))) (le-trans b (lit≤ tt), le-trans b (at-most (p .columns)))
 
     block-small : (i : ℕ) → (natAbs (at t₂ i) ≤ 2621442) × (natAbs (at t₂ i) ≤ most (p .columns))
     block-small i = go (ltb i (r * p .w)) refl

@@ -8,7 +8,7 @@ use Rattle.whole.specs.Numbers.{_>>_, round2, clip, low, high}
 use Rattle.whole.specs.Lists.{at, tab, any}
 use Rattle.av1.specs.Sides.{side}
 use Rattle.itx_1d.specs.declared.Kind.{Kind}
-use Rattle.itx_1d.specs.declared.Kind.the-variants.{Dct, Identity, Wht}
+use Rattle.itx_1d.specs.Manners.{is-wht}
 use Rattle.itx_1d.specs.Passes.{Passed, pass}
 use Rattle.bitdepth.specs.declared.Depth.{Depth}
 use Rattle.bitdepth.specs.Depths.{row-range, column-range}
@@ -55,9 +55,7 @@ prescale w h v = cond (eqb (w * 2) h || eqb (h * 2) w) (round2 (v *ℤ pos 181) 
 
 -- a for WHT_WHT, b for the other types
 abbrev pub if-wht : Kind → ℤ → ℤ → ℤ
-if-wht Wht a b = a
-if-wht Dct a b = b
-if-wht Identity a b = b
+if-wht kind a b = cond (is-wht kind) a b
 
 -- "WHT_WHT: coefficients are shifted right by 2, rows, columns .. no step 2, 4 or rounding."
 abbrev pub way : Plan → Depth → Way

@@ -3,6 +3,7 @@ use mathlib.Core.Path.{_≡_}
 use mathlib.Core.Bool.{Bool, true, false}
 use mathlib.Core.List.{List}
 use Prim.Native.Nat.{ℕ, zero, suc, _+_, _*_, _≤_, _<_}
+use lib.Dec.{T}
 use lib.IntN.{ℤ, pos, natAbs}
 use lib.ListN.{length, set}
 use Rattle.whole.specs.Numbers.{_>>_, round2, clip}
@@ -11,6 +12,7 @@ use Rattle.av1.specs.Sides.{len, side}
 use Rattle.itx_1d.specs.declared.Kind.{Kind}
 use Rattle.itx_1d.specs.declared.Kind.the-variants.{Dct, Wht}
 use Rattle.itx_1d.specs.Passes.{Passed, pass}
+use Rattle.itx_1d.specs.Manners.{is-wht}
 use Rattle.itx_1d.specs.Inner.{revs, source, most, Lined, Limited}
 use Rattle.bitdepth.specs.declared.Depth.{Depth}
 use Rattle.levels.specs.declared.Plan.{Plan}
@@ -41,7 +43,7 @@ pub record Sized (p : Plan) : Type 0 where
   pub shift-small : p .shift ≤ 2
   pub row-length : Lined (p .rows) (p .w)
   pub column-length : Lined (p .columns) (p .h)
-  pub wht-both : p .rows ≡ Wht → p .columns ≡ Wht
+  pub wht-both : T (is-wht (p .rows)) → p .columns ≡ Wht
 
 -- the first w·h coefficients are there and small
 pub record Coefs (p : Plan) (c : List ℤ) : Type 0 where

@@ -14,6 +14,7 @@ use Rattle.whole.specs.Checks.{Check, accept, refuse, then}
 use Rattle.bitdepth.specs.declared.Depth.{Depth}
 use Rattle.bitdepth.specs.Depths.{depth, row-range}
 use Rattle.levels.specs.declared.Plan.{Plan}
+use Rattle.levels.proofs.Types.{by-types}
 use Rattle.levels.specs.Plans.{among, shift-0, shift-1, shift-2, shift-of, kinds-of, with-kinds, with-shift, plan}
 use Rattle.levels.proofs.Sizes.{side-bounds, plan-sided}
 use Rattle.strided.specs.Planes.{bad-stride, row-outside}
@@ -36,13 +37,7 @@ small-shift : (w h : ℕ) → Small (shift-of w h)
 small-shift w h = small-cond (among w h shift-0) _ _ tt (small-cond (among w h shift-1) _ _ tt (small-cond (among w h shift-2) _ _ tt (omega arith)))
 
 small-kinds : (w h type : ℕ) → Small (kinds-of w h type)
-small-kinds w h type =
-    let s = leb (w * h) 128 || (eqb w 16 && eqb h 16) in
-    small-cond (eqb type 0) _ _ tt
-    (small-cond (eqb type 9) _ _ tt
-    (small-cond (eqb type 10) _ _ (small-cond s _ _ tt (omega arith))
-    (small-cond (eqb type 11) _ _ (small-cond s _ _ tt (omega arith))
-    (small-cond (eqb type 16 && (eqb w 4 && eqb h 4)) _ _ tt (omega arith)))))
+small-kinds w h type = by-types (λ t. true) Small w h type (omega arith) (λ t a b. tt) tt
 
 small-plan : (w h type : ℕ) → Small (plan w h type)
 small-plan w h type = small-then (shift-of w h) (with-shift w h type) (small-shift w h) (λ s e. small-then (kinds-of w h type) (with-kinds w h s) (small-kinds w h type) (λ k f. tt))

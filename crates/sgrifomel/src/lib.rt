@@ -3,7 +3,7 @@ ghost use mathlib.Core.Path.{_≡_};
 ghost use Prim.Native.Nat.{_<_};
 ghost use Rattle.av1.specs.Sides.{of4, of8, of16, of32};
 ghost use Rattle.itx_1d.specs.Calls as Calls;
-ghost use Rattle.itx_1d.specs.declared.Kind.the-variants.{Dct, Identity};
+ghost use Rattle.itx_1d.specs.declared.Kind.the-variants.{Dct, Identity, Adst, FlipAdst};
 ghost use Rattle.strided.specs.Planes.{lent};
 ghost use Rattle.itx.specs.Calls as Blocks;
 ghost use Rattle.itx.specs.Answers as Answers;
@@ -150,6 +150,25 @@ pub extern "C" fn sgrifomel_inv_identity32_1d(
     ensures { λ r. ⌜ Packs (Calls.ranged Identity of32 (now (c .entry)) stride min max) r (now (c .exit)) ⌝ }
 {
     pack(itx_1d::inv_identity32_1d(c, stride, min, max))
+}
+
+#[no_mangle]
+pub extern "C" fn sgrifomel_inv_adst4_1d(c: &mut [i32], stride: usize, min: i32, max: i32) -> u64
+    ensures { λ r. ⌜ Packs (Calls.ranged Adst of4 (now (c .entry)) stride min max) r (now (c .exit)) ⌝ }
+{
+    pack(itx_1d::inv_adst4_1d(c, stride, min, max))
+}
+
+#[no_mangle]
+pub extern "C" fn sgrifomel_inv_flipadst4_1d(
+    c: &mut [i32],
+    stride: usize,
+    min: i32,
+    max: i32,
+) -> u64
+    ensures { λ r. ⌜ Packs (Calls.ranged FlipAdst of4 (now (c .entry)) stride min max) r (now (c .exit)) ⌝ }
+{
+    pack(itx_1d::inv_flipadst4_1d(c, stride, min, max))
 }
 
 #[no_mangle]

@@ -9,7 +9,7 @@ use Rattle.levels.specs.declared.Plan.{Plan}
 use Rattle.levels.proofs.Sizes.{side-bounds}
 use Rattle.residual.specs.Inner.{wht-plan}
 use Rattle.itx.specs.Answers.{Ready, Passed}
-use Rattle.itx.proofs.Painting.{zeros-at, adding, painted, is-wht, any-shift}
+use Rattle.itx.proofs.Painting.{zeros-at, adding, painted, wht-planned, any-shift}
 use Rattle.itx.proofs.by_passes.Statement.{statement}
 use Rattle.itx.proofs.by_passes.Tie as tie
 
@@ -18,7 +18,7 @@ module _ (e : tie.After-enum-told) where
   begun = e .before .before .before
 
   plan-is : begun .args .plan ≡ wht-plan (begun .args .plan .shift)
-  plan-is = is-wht (begun .args .plan) (begun .pre .0 .sized) (e .enum-told .given .1)
+  plan-is = wht-planned (begun .args .plan) (begun .pre .0 .sized) (e .enum-told .given .1)
 
 by-wht-requires : tie.Need-by-wht-requires
 by-wht-requires c κs =

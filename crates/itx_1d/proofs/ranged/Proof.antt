@@ -4,7 +4,7 @@ use mathlib.Core.Bool.{Bool, true, false}
 use mathlib.Core.List.{List, [], _∷_}
 use mathlib.Core.Option.{Option}
 use Prim.Native.Nat.{ℕ, _*_, _-_, _≤_}
-use lib.Dec.{T, eqb, leb}
+use lib.Dec.{eqb, leb}
 use lib.IntN.{ℤ, natAbs}
 use lib.ListN.{length}
 use mir.Syntax.{w32}
@@ -17,13 +17,12 @@ use Rattle.whole.specs.Numbers.{outside}
 use Rattle.whole.specs.Lists.{at, first}
 use Rattle.whole.proofs.Held.{to2}
 use Rattle.av1.specs.Sides.{side}
-use Rattle.itx_1d.specs.declared.Kind.{Kind}
-use Rattle.itx_1d.specs.declared.Kind.the-variants.{Dct, Identity, Wht}
 use Rattle.itx_1d.specs.declared.Pass.{Pass}
 use Rattle.itx_1d.specs.declared.Pass.the-variants.{Done}
 use Rattle.itx_1d.specs.Passes.{Passed}
 use Rattle.itx_1d.specs.Calls.{Outcome, taken, put, bad-range, accepted, Meets}
-use Rattle.itx_1d.specs.Inner.{range-check, checked, looked, called, Seen, Ranged, Passable, Passing, PassIs, DctIs, takes-range}
+use Rattle.itx_1d.specs.Inner.{range-check, checked, looked, called, Seen, Ranged, Passable, Passing, PassIs, DctIs}
+use Rattle.itx_1d.proofs.Manners.{most-ranged}
 use Rattle.itx_1d.proofs.Accepted.{verdict, defined, Good, good, accepted-is, refused-is, seen, ranged-of, passed, called-is, done}
 use Rattle.itx_1d.proofs.Pass.{the-type}
 use Rattle.itx_1d.proofs.Through.{not-more, ends-of}
@@ -101,12 +100,6 @@ module _ (t : tie.After-enum-told) where
   abbrev seen-by : Bool → Type 0
   seen-by tx64 = Seen (s .args .c .now) (s .args .stride) (s .args .n) (looked tx64 (s .args .n)) 524288
 
--- a DCT or an identity asks the same
-passing : (kind : Kind) (c : List ℤ) (n s : ℕ) (lo hi : ℤ) → T (takes-range kind) → Ranged lo hi → Passable c s n 524288 → Passing kind c n s lo hi
-passing Dct c n s lo hi t r p = record { lined = tt; limited = r; able = p }
-passing Identity c n s lo hi t r p = record { lined = tt; limited = tt; able = p }
-passing Wht c n s lo hi t r p = absurd t
-
 dct-requires : tie.Need-dct-requires
 dct-requires c κs =
     let t = c .before .before in
@@ -125,7 +118,8 @@ inv-1d-requires c κs =
     let t = c .before .before in
     let q = s t in
     let p = subst (seen-by t) (c .before .if1 .left) (looked-at t) in
-    to2 (Passing (q .args .kind) (q .args .c .now) (q .args .n) (q .args .stride)) (q .fits .min) (q .fits .max) (passing (q .args .kind) (q .args .c .now) (q .args .n) (q .args .stride) (q .args .min) (q .args .max) (q .pre .range) (in-range t) p)
+    let able = subst⁻¹ (Passable (q .args .c .now) (q .args .stride) (q .args .n)) (most-ranged (q .args .kind) (q .pre .range)) p in
+    to2 (Passing (q .args .kind) (q .args .c .now) (q .args .n) (q .args .stride)) (q .fits .min) (q .fits .max) (record { lined = q .pre .lined; limited = λ d. in-range t; able = able })
 
 returns-3 : tie.Need-returns-3
 returns-3 c =

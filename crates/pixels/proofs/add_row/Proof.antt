@@ -15,7 +15,7 @@ use Rattle.whole.specs.Numbers.{round2}
 use Rattle.whole.specs.Lists.{at}
 use Rattle.whole.proofs.Machine.{var, lit, _⊕_, _≫_, bound}
 use Rattle.itx_1d.specs.declared.Kind.{Kind}
-use Rattle.itx_1d.specs.declared.Kind.the-variants.{Dct, Identity, Wht}
+use Rattle.itx_1d.proofs.Manners.{split}
 use Rattle.pixels.specs.Adds.{add-pixel, add-row}
 use Rattle.pixels.specs.Inner.{left}
 use Rattle.pixels.proofs.Pixels.{row-length, row-other}
@@ -28,9 +28,7 @@ unfolding Rattle.whole.specs.Numbers.round2 Rattle.whole.specs.Numbers._>>_
 round-small v l = le-trans (bound (v ∷ []) (16777216 ∷ []) (l, tt) (var 0 ⊕ lit (pos 8) ≫ 4)) (lit≤ tt)
 
 left-small : (k : Kind) (v : ℤ) → natAbs v ≤ 16777216 → natAbs (left k v) ≤ 16777216
-left-small Wht v l = l
-left-small Dct v l = round-small v l
-left-small Identity v l = round-small v l
+left-small k v l = split (λ z. natAbs z ≤ 16777216) k v (round2 v 4) (λ t. l) (round-small v l)
 
 abbrev Inv-loop : tie.InvT-loop
 Inv-loop ps₀ from t start columns w top x₀ ps x = (ps ≡ add-row top ps₀ from (λ i. left columns (at t (start + i))) x) × (x ≤ w)

@@ -32,7 +32,7 @@ dct-requires c κs =
     let e = c .before in
     let s = e .before .before .before in
     to2 (Ready (leb (s .args .r * 2) (s .args .h)) (len (side (s .args .h))) (s .args .w) (e .lay .last .0)) (s .fits .min) (s .fits .max)
-    (ready (s .pre .0 .is-length) (e .lay .ensures) (leb (s .args .r * 2) (s .args .h)) (s .pre .0 .limited) (s .pre .0 .narrow) (λ y x h g. s .pre .0 .small (y * s .args .w + x)) (λ few y x low h g. lower-zero s y x few low))
+    (ready (s .pre .0 .is-length) (e .lay .ensures) (leb (s .args .r * 2) (s .args .h)) (s .pre .0 .limited tt) (s .pre .0 .narrow) (λ y x h g. s .pre .0 .small (y * s .args .w + x)) (λ few y x low h g. lower-zero s y x few low))
 
 returns-2 : tie.Need-returns-2
 returns-2 c =
@@ -44,11 +44,11 @@ returns-2 c =
     succeeded
     (record {
       elements = record {
-        passed = λ y x h g. taken .rows y x h g ∙ value (s .pre .0 .is-length) (e .lay .ensures) (s .pre .0 .limited) all x g y h;
+        passed = λ y x h g. taken .rows y x h g ∙ value (s .pre .0 .is-length) (e .lay .ensures) (s .pre .0 .limited tt) all x g y h;
         waiting = λ y x h k g. (let f : ⊥ = omega arith in absurd f);
         long = taken .long;
       };
-      marked = sym (any-none (s .args .w) _ (λ x h. unmarked (s .pre .0 .is-length) (e .lay .ensures) (s .pre .0 .limited) all x h));
+      marked = sym (any-none (s .args .w) _ (λ x h. unmarked (s .pre .0 .is-length) (e .lay .ensures) (s .pre .0 .limited tt) all x h));
     })
 
 pub quick-columns-spec : {M : Type 1} → statement M

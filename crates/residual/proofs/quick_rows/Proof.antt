@@ -26,7 +26,7 @@ use Rattle.residual.proofs.quick_rows.Tie as tie
 
 module _ (s : tie.Start) where
   ranged : Ranged (s .args .min) (s .args .max)
-  ranged = subst (λ (k : Kind). Limited k (s .args .min) (s .args .max)) (s .pre .is-dct) (s .pre .load .limited)
+  ranged = subst (λ (k : Kind). Limited k (s .args .min) (s .args .max)) (s .pre .is-dct) (s .pre .load .limited) tt
 
   small : (x y : ℕ) → x < s .args .plan .w → y < s .args .r → natAbs (loaded (s .args .plan) (s .args .coeff .now) y x) ≤ 524288
   small x y h g =

@@ -16,10 +16,11 @@ use Rattle.whole.proofs.Counts.{any-snoc}
 use Rattle.whole.proofs.Held.{to2}
 use Rattle.itx_1d.specs.Passes.{Passed}
 use Rattle.itx_1d.specs.Inner.{most, Limited}
+use Rattle.itx_1d.proofs.Manners.{at-most}
 use Rattle.residual.specs.Inner.{loaded, row-made, RowsAre}
 use Rattle.residual.proofs.Fills.{fill-length}
 use Rattle.residual.proofs.Places.{area, by-column}
-use Rattle.residual.proofs.Small.{entering-small, at-most}
+use Rattle.residual.proofs.Small.{entering-small}
 use Rattle.residual.proofs.Steps.{row-passable, row-more, row-mark}
 use Rattle.residual.proofs.rows_by_line.Statement.{statement}
 use Rattle.residual.proofs.rows_by_line.Tie as tie

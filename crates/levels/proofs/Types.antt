@@ -1,0 +1,33 @@
+-- What holds of the types of the table holds of what is answered.
+use mathlib.Core.Bool.{Bool, true, false, cond, _&&_}
+use mathlib.Core.List.{List, [], _∷_}
+use Prim.Native.Nat.{ℕ}
+use lib.Dec.{T, eqb}
+use mir.Facts.{and-yes}
+use Rattle.whole.specs.Checks.{Check, accept, refuse}
+use Rattle.itx_1d.specs.declared.Kind.{Kind}
+use Rattle.levels.specs.Plans.{TxType, has, types, kinds-in, kinds-of}
+
+-- a test of the types, computed once
+module _ (test : TxType → Bool) where
+  abbrev pub all : List TxType → Bool
+  all [] = true
+  all (t ∷ ts) = test t && all ts
+
+  module _ (P : Check (Kind × Kind) → Type 0) (w h n : ℕ) (no : P (refuse 2 0)) (yes : (t : TxType) → T (test t) → T (has (t .sizes) w h) → P (accept (t .rows, t .columns))) where
+    pub by-types : T (all types) → P (kinds-of w h n)
+    by-types = go types
+      where
+        stands : (b : Bool) (t : TxType) → (T b → P (accept (t .rows, t .columns))) → P (cond b (accept (t .rows, t .columns)) (refuse 2 0))
+        stands true t f = f tt
+        stands false t f = no
+
+        chosen : (b : Bool) {k l : Check (Kind × Kind)} → P k → P l → P (cond b k l)
+        chosen true p q = p
+        chosen false p q = q
+
+        go : (ts : List TxType) → T (all ts) → P (kinds-in ts w h n)
+        go [] e = no
+        go (t ∷ ts) e =
+            let both = and-yes (test t) (all ts) e in
+            chosen (eqb n (t .number)) (stands (has (t .sizes) w h) t (yes t (both .0))) (go ts (both .1))
