@@ -57,6 +57,13 @@ uint64_t sgrifomel_inv_adst4_1d(int32_t *c, size_t len, size_t stride, int32_t m
 uint64_t sgrifomel_inv_flipadst4_1d(int32_t *c, size_t len, size_t stride, int32_t min, int32_t max);
 uint64_t sgrifomel_inv_wht4_1d(int32_t *c, size_t len, size_t stride);
 
+/* DCTs of half inputs: the upper half of the elements is taken as zero. It is not read, so number 14 looks at the lower half only;
+   all elements are written, so number 13 asks for all. */
+uint64_t sgrifomel_inv_dct4_half_1d(int32_t *c, size_t len, size_t stride, int32_t min, int32_t max);
+uint64_t sgrifomel_inv_dct8_half_1d(int32_t *c, size_t len, size_t stride, int32_t min, int32_t max);
+uint64_t sgrifomel_inv_dct16_half_1d(int32_t *c, size_t len, size_t stride, int32_t min, int32_t max);
+uint64_t sgrifomel_inv_dct32_half_1d(int32_t *c, size_t len, size_t stride, int32_t min, int32_t max);
+
 /* Two-dimensional transforms, added to a block of w by h pixels. dst is a plane of dst_len pixels, 16 bits each at every
    depth; row y of the block starts at pixel offset + y * (stride / 2): stride counts bytes and may be negative. The
    coefficient of row y, column x is coeff[y + x * h] of coeff_len. dst and coeff may not overlap, and nothing else may touch

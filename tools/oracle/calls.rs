@@ -58,7 +58,7 @@ impl PassCall {
             return Some(Answer::refused(13, 0));
         }
         let outside = |&k: &usize| !(-m..m).contains(&self.c[k * self.stride]);
-        (0..self.n).find(outside).map(|k| Answer::refused(14, k))
+        (0..self.kind.looked(self.n)).find(outside).map(|k| Answer::refused(14, k))
     }
 
     pub fn wanted(&self) -> (Answer, Vec<i32>) {

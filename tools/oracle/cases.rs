@@ -51,7 +51,7 @@ pub fn maximum(depth: usize) -> u16 {
 /// Each kind and length of pass with each of its ranges.
 pub fn pass_shapes() -> Vec<(Kind, usize, i32)> {
     let mut shapes = vec![(Kind::Wht, 4, WHT_LIMIT)];
-    for kind in [Kind::Dct, Kind::Identity] {
+    for kind in [Kind::Dct, Kind::HalfDct, Kind::Identity] {
         for n in [4, 8, 16, 32] {
             shapes.extend(LIMITS.map(|m| (kind, n, m)));
         }
@@ -145,11 +145,11 @@ fn near_the_clips(rng: &mut Rng, v: &mut [i32], m: i32) {
     }
 }
 
-/// An accepted pass. What stands between its elements and after them may be any number.
+/// An accepted pass. What stands between its elements and after them, and where it does not read, may be any number.
 pub fn pass_call(rng: &mut Rng, (kind, n, m): (Kind, usize, i32), stride: usize) -> PassCall {
     let len = (n - 1) * stride + 1 + rng.below(4);
     let mut c: Vec<i32> = (0..len).map(|_| rng.any_i32()).collect();
-    for (k, v) in values(rng, n, m).into_iter().enumerate() {
+    for (k, v) in values(rng, kind.looked(n), m).into_iter().enumerate() {
         c[k * stride] = v;
     }
     PassCall { kind, n, c, stride, min: -m, max: m - 1 }

@@ -1,6 +1,8 @@
 //! The functions cut out of the crate's `itx.rs`, and the choice of their constant parameters at run time.
 
 #[cfg(recorder)]
+use crate::shim::recorder::{inv_dct16_half_1d, inv_dct32_half_1d, inv_dct4_half_1d, inv_dct8_half_1d};
+#[cfg(recorder)]
 use crate::shim::recorder::{rav1d_inv_dct16_1d_c, rav1d_inv_dct32_1d_c, rav1d_inv_dct4_1d_c, rav1d_inv_dct8_1d_c};
 
 use crate::itx_1d::*;
@@ -98,8 +100,20 @@ pub enum Kind {
     Dct,
     Identity,
     Wht,
-    Adst = 4,
+    HalfDct,
+    Adst,
     FlipAdst,
+}
+
+impl Kind {
+    /// How many of n elements it reads.
+    pub fn looked(self, n: usize) -> usize {
+        if self == Kind::HalfDct {
+            n / 2
+        } else {
+            n
+        }
+    }
 }
 
 /// The crate's pass of n points of a kind.
@@ -110,6 +124,10 @@ pub fn pass(kind: Kind, n: usize, c: &mut [i32], stride: usize, min: i32, max: i
         (Kind::Dct, 8) => rav1d_inv_dct8_1d_c,
         (Kind::Dct, 16) => rav1d_inv_dct16_1d_c,
         (Kind::Dct, 32) => rav1d_inv_dct32_1d_c,
+        (Kind::HalfDct, 4) => inv_dct4_half_1d,
+        (Kind::HalfDct, 8) => inv_dct8_half_1d,
+        (Kind::HalfDct, 16) => inv_dct16_half_1d,
+        (Kind::HalfDct, 32) => inv_dct32_half_1d,
         (Kind::Identity, 4) => rav1d_inv_identity4_1d_c,
         (Kind::Identity, 8) => rav1d_inv_identity8_1d_c,
         (Kind::Identity, 16) => rav1d_inv_identity16_1d_c,

@@ -8,7 +8,7 @@ use std::env;
 use std::io::{self, Read, Write};
 use std::process::exit;
 
-const KINDS: [Kind; 5] = [Kind::Dct, Kind::Identity, Kind::Wht, Kind::Adst, Kind::FlipAdst];
+const KINDS: [Kind; 6] = [Kind::Dct, Kind::Identity, Kind::Wht, Kind::HalfDct, Kind::Adst, Kind::FlipAdst];
 
 fn main() {
     let words: Vec<String> = env::args().skip(1).collect();

@@ -232,4 +232,5 @@ pub mod recorder {
     }
 
     marked!(rav1d_inv_dct4_1d_c, rav1d_inv_dct8_1d_c, rav1d_inv_dct16_1d_c, rav1d_inv_dct32_1d_c);
+    marked!(inv_dct4_half_1d, inv_dct8_half_1d, inv_dct16_half_1d, inv_dct32_half_1d);
 }

@@ -1,23 +1,25 @@
 -- The bounds hold: a step whose test is passed can be run, and the array is then within the next bounds.
-use mathlib.Core.Path.{_≡_, refl}
-use mathlib.Core.Bool.{Bool, true, false, _&&_}
+use mathlib.Core.Path.{_≡_, refl, subst, subst⁻¹}
+use mathlib.Core.Bool.{Bool, true, false, cond, not, _&&_, _||_}
 use mathlib.Core.List.{List, [], _∷_}
-use Prim.Native.Nat.{ℕ, _≤_}
+use Prim.Native.Nat.{ℕ, _%_, _≤_}
 use native.Mathlib.Nat.{le-trans}
 use native.Mathlib.Omega.{arith}
 use lib.IntN.{ℤ, pos, natAbs, _+ℤ_, _-ℤ_}
-use lib.Dec.{T, leb, ltb, leb→le, ltb→lt}
+use lib.Dec.{T, eqb, leb, ltb, eqb→eq, leb→le, ltb→lt}
 use lib.ListN.{getD}
+use borrow.Author.Tests.{ne-eqb}
 use mir.Facts.{and-yes}
 use Rattle.whole.specs.Numbers.{_>>_, round2}
 use Rattle.whole.specs.Lists.{at}
 use Rattle.whole.specs.Both.{Both}
 use Rattle.whole.proofs.Clips.{clip-abs}
+use Rattle.whole.proofs.Sizes.{is-zero}
 use Rattle.whole.proofs.Machine.{var, lit, _⊕_, _⊝_, _⊛_, _≫_, bound}
 use Rattle.av1.specs.Network.{Step, B, H, step}
 use Rattle.av1.specs.Values.{exact, clipped}
 use Rattle.av1.proofs.Related as Related
-use Rattle.dct.specs.Fitting.{Ends, Turnable, Mixable, Small, sizes, fits, fitting, Able}
+use Rattle.dct.specs.Fitting.{Ends, Turnable, Lonely, Mixable, Small, sizes, lonely, turning, fits, fitting, Able}
 
 module _ {lo hi : ℤ} (ends : Ends lo hi) where
   pub keep-small : Related.Respects (clipped lo hi) sizes Small
@@ -30,38 +32,58 @@ module _ {lo hi : ℤ} (ends : Ends lo hi) where
     diff = λ x y m n p q. clip-abs (x -ℤ y) lo hi (ends .low) (ends .high);
   }
 
-  pub able-next : {s : Step} {ss : List Step} {t : List ℤ} → Able (s ∷ ss) t → Able ss (step (clipped lo hi) s t)
-  able-next {s} {ss} a = record {
+  pub able-next : {h : Bool} {s : Step} {ss : List Step} {t : List ℤ} → Able h (s ∷ ss) t → Able h ss (step (clipped lo hi) s t)
+  able-next {h} {s} {ss} a = record {
     β = step sizes s (a .β);
     inside = Related.step-related keep-small s (a .inside);
-    ok = and-yes (fits s (a .β)) (fitting ss (step sizes s (a .β))) (a .ok) .1;
+    ok = and-yes (fits h s (a .β)) (fitting h ss (step sizes s (a .β))) (a .ok) .1;
   }
 
 -- an element is as small as its bound allows
 small-at : (t : List ℤ) (β : List ℕ) (most : ℕ) → Both Small t β → (i : ℕ) → T (leb (getD β i 0) most) → natAbs (at t i) ≤ most
 small-at t β most h i k = le-trans (Related.at Small (pos 0) 0 (omega arith) h i) (leb→le (getD β i 0) most k)
 
-pub able-turn : {a b : ℕ} {c s : ℤ} {flip : Bool} {ss : List Step} {t : List ℤ} → Able (B a b c s flip ∷ ss) t → Turnable t a b c s
-able-turn {a} {b} {c} {s} {flip} {ss} {t} w =
-    let β = w .β in
-    let p = and-yes (ltb a 32 && ltb b 32) _ (and-yes (fits (B a b c s flip) β) (fitting ss (step sizes (B a b c s flip) β)) (w .ok) .0) in
-    let q = and-yes (leb (getD β a 0) 524288 && leb (getD β b 0) 524288) (leb (natAbs c) 4096 && leb (natAbs s) 4096) (p .1) in
-    let ab = and-yes (ltb a 32) (ltb b 32) (p .0) in
-    let xy = and-yes (leb (getD β a 0) 524288) (leb (getD β b 0) 524288) (q .0) in
-    let cs = and-yes (leb (natAbs c) 4096) (leb (natAbs s) 4096) (q .1) in
-    record {
-      a-in = ltb→lt a 32 (ab .0);
-      b-in = ltb→lt b 32 (ab .1);
-      x-small = small-at t β 524288 (w .inside) a (xy .0);
-      y-small = small-at t β 524288 (w .inside) b (xy .1);
-      cos-small = leb→le _ 4096 (cs .0);
-      sin-small = leb→le _ 4096 (cs .1);
-    }
+zero-at : (t : List ℤ) (β : List ℕ) → Both Small t β → (i : ℕ) → T (eqb (getD β i 0) 0) → at t i ≡ pos 0
+zero-at t β h i k = is-zero (at t i) (omega (arith, small-at t β 0 h i (subst⁻¹ (λ (n : ℕ). T (leb n 0)) (eqb→eq (getD β i 0) 0 k) tt)))
 
-pub able-join : {a b : ℕ} {ss : List Step} {t : List ℤ} → Able (H a b ∷ ss) t → Mixable t a b
+module _ {h : Bool} {a b : ℕ} {c s : ℤ} {flip : Bool} {ss : List Step} {t : List ℤ} (w : Able h (B a b c s flip ∷ ss) t) where
+  both-tests : T (turning a b c s (w .β)) × T (not h || lonely a b c s (w .β))
+  both-tests = and-yes (turning a b c s (w .β)) (not h || lonely a b c s (w .β)) (and-yes (fits h (B a b c s flip) (w .β)) (fitting h ss (step sizes (B a b c s flip) (w .β))) (w .ok) .0)
+
+  pub able-turn : Turnable t a b c s
+  able-turn =
+      let β = w .β in
+      let p = and-yes (ltb a 32 && ltb b 32) ((leb (getD β a 0) 524288 && leb (getD β b 0) 524288) && (leb (natAbs c) 4096 && leb (natAbs s) 4096)) (both-tests .0) in
+      let q = and-yes (leb (getD β a 0) 524288 && leb (getD β b 0) 524288) (leb (natAbs c) 4096 && leb (natAbs s) 4096) (p .1) in
+      let ab = and-yes (ltb a 32) (ltb b 32) (p .0) in
+      let xy = and-yes (leb (getD β a 0) 524288) (leb (getD β b 0) 524288) (q .0) in
+      let cs = and-yes (leb (natAbs c) 4096) (leb (natAbs s) 4096) (q .1) in
+      record {
+        a-in = ltb→lt a 32 (ab .0);
+        b-in = ltb→lt b 32 (ab .1);
+        x-small = small-at t β 524288 (w .inside) a (xy .0);
+        y-small = small-at t β 524288 (w .inside) b (xy .1);
+        cos-small = leb→le _ 4096 (cs .0);
+        sin-small = leb→le _ 4096 (cs .1);
+      }
+
+  pub able-lone : h ≡ true → Lonely t a b c s
+  able-lone e =
+      let l = and-yes (eqb (getD (w .β) (cond (eqb (a % 2) 0) b a) 0) 0) (leb (natAbs c) 4095 && leb (natAbs s) 4095) (subst (λ (k : Bool). T (not k || lonely a b c s (w .β))) e (both-tests .1)) in
+      let m = and-yes (leb (natAbs c) 4095) (leb (natAbs s) 4095) (l .1) in
+      let zero : (i : ℕ) → cond (eqb (a % 2) 0) b a ≡ i → at t i ≡ pos 0 = λ i z. zero-at t (w .β) (w .inside) i (subst (λ (k : ℕ). T (eqb (getD (w .β) k 0) 0)) z (l .0)) in
+      record {
+        turnable = able-turn;
+        cos-less = leb→le _ 4095 (m .0);
+        sin-less = leb→le _ 4095 (m .1);
+        first = λ z. zero b (λ i. cond (eqb (z i) 0) b a);
+        second = λ z. zero a (λ i. cond (ne-eqb (a % 2) 0 z i) b a);
+      }
+
+pub able-join : {a b : ℕ} {ss : List Step} {t : List ℤ} → Able false (H a b ∷ ss) t → Mixable t a b
 able-join {a} {b} {ss} {t} w =
     let β = w .β in
-    let p = and-yes (ltb a 32 && ltb b 32) _ (and-yes (fits (H a b) β) (fitting ss (step sizes (H a b) β)) (w .ok) .0) in
+    let p = and-yes (ltb a 32 && ltb b 32) _ (and-yes (fits false (H a b) β) (fitting false ss (step sizes (H a b) β)) (w .ok) .0) in
     let ab = and-yes (ltb a 32) (ltb b 32) (p .0) in
     let xy = and-yes (leb (getD β a 0) 1073741823) (leb (getD β b 0) 1073741823) (p .1) in
     record {

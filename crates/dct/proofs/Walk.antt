@@ -52,48 +52,64 @@ module _ {lo hi : ℤ} (f : SFits w32 lo) (g : SFits w32 hi) where
   read-back F = λ i. F (toZ-ofZ w32 lo f i) (toZ-ofZ w32 hi g i)
 
 -- after the steps ss from t: the work array u, and whether a clip has acted
-pub record Walked (lo hi : ℤ) (t : List ℤ) (ss : List Step) (u : List ℤ) (r : Bool) : Type 0 where
+pub record Walked (tx64 : Bool) (lo hi : ℤ) (t : List ℤ) (ss : List Step) (u : List ℤ) (r : Bool) : Type 0 where
   pub low-fits : SFits w32 lo
   pub high-fits : SFits w32 hi
   pub ends : Ends lo hi
   pub is : u ≡ run (clipped lo hi) ss t
   pub mark : r ≡ hits lo hi ss t
-  pub inside : Both Small u (run sizes ss small)
+  pub inside : Both Small u (run sizes ss (small tx64))
 
-pub begin : {lo hi : ℤ} {t : List ℤ} → SFits w32 lo → SFits w32 hi → Ready t lo hi → Walked lo hi t [] t false
+pub begin : {tx64 : Bool} {lo hi : ℤ} {t : List ℤ} → SFits w32 lo → SFits w32 hi → Ready tx64 t lo hi → Walked tx64 lo hi t [] t false
 begin f g r = record { low-fits = f; high-fits = g; ends = r .ends; is = refl; mark = refl; inside = r .inside }
 
-module _ {lo hi : ℤ} {t : List ℤ} {ss : List Step} {u v : List ℤ} {r : Bool} (w : Walked lo hi t ss u r) where
-  more : {m : Bool} (rs : List Step) → v ≡ run (clipped lo hi) rs u → m ≡ hits lo hi rs u → Walked lo hi t (ss ++ rs) v (r || m)
+module _ {tx64 : Bool} {lo hi : ℤ} {t : List ℤ} {ss : List Step} {u v : List ℤ} {r : Bool} (w : Walked tx64 lo hi t ss u r) where
+  more : {m : Bool} (rs : List Step) → v ≡ run (clipped lo hi) rs u → m ≡ hits lo hi rs u → Walked tx64 lo hi t (ss ++ rs) v (r || m)
   more rs e h = record {
     low-fits = w .low-fits;
     high-fits = w .high-fits;
     ends = w .ends;
     is = e ∙ ap (run (clipped lo hi) rs) (w .is) ∙ sym (run-append (clipped lo hi) ss rs t);
     mark = (λ i. w .mark i || h i) ∙ ap (λ (x : List ℤ). hits lo hi ss t || hits lo hi rs x) (w .is) ∙ sym (hits-append lo hi ss rs t);
-    inside = subst⁻¹ (Both Small v) (run-append sizes ss rs small) (subst⁻¹ (λ (x : List ℤ). Both Small x (run sizes rs (run sizes ss small))) e (run-related (keep-small (w .ends)) rs (w .inside)));
+    inside = subst⁻¹ (Both Small v) (run-append sizes ss rs (small tx64)) (subst⁻¹ (λ (x : List ℤ). Both Small x (run sizes rs (run sizes ss (small tx64)))) e (run-related (keep-small (w .ends)) rs (w .inside)));
   }
 
-  pub turned : (rs : List Step) → T (are-turns rs) → v ≡ run exact rs u → Walked lo hi t (ss ++ rs) v r
+  pub turned : (rs : List Step) → T (are-turns rs) → v ≡ run exact rs u → Walked tx64 lo hi t (ss ++ rs) v r
   turned rs k e =
-      subst (Walked lo hi t (ss ++ rs) v) (or-no r) (more rs (e ∙ turns-exact lo hi rs u k) (sym (turns-quiet lo hi rs u k)))
+      subst (Walked tx64 lo hi t (ss ++ rs) v) (or-no r) (more rs (e ∙ turns-exact lo hi rs u k) (sym (turns-quiet lo hi rs u k)))
 
-  pub joined : {m : Bool} (rs : List Step) → Joined rs (toZ w32 (ofZ w32 lo)) (toZ w32 (ofZ w32 hi)) u v m → Walked lo hi t (ss ++ rs) v (r || m)
+  pub joined : {m : Bool} (rs : List Step) → Joined rs (toZ w32 (ofZ w32 lo)) (toZ w32 (ofZ w32 hi)) u v m → Walked tx64 lo hi t (ss ++ rs) v (r || m)
   joined rs e =
       more rs (e .elements ∙ read-back (w .low-fits) (w .high-fits) (λ x y. run (clipped x y) rs u))
       (e .mark ∙ read-back (w .low-fits) (w .high-fits) (λ x y. hits x y rs u))
 
 -- the half
-pub halved : {lo hi : ℤ} {t u : List ℤ} {r : Bool} (n : ℕ) → SFits w32 lo → SFits w32 hi → Ready t lo hi
-    → Through n (toZ w32 (ofZ w32 lo)) (toZ w32 (ofZ w32 hi)) t u r → Walked lo hi t (before n ++ last n) u r
+pub halved : {tx64 : Bool} {lo hi : ℤ} {t u : List ℤ} {r : Bool} (n : ℕ) → SFits w32 lo → SFits w32 hi → Ready tx64 t lo hi
+    → Through n (toZ w32 (ofZ w32 lo)) (toZ w32 (ofZ w32 hi)) t u r → Walked tx64 lo hi t (before n ++ last n) u r
 halved {t = t} n f g q e =
     more (begin f g q) (before n ++ last n) (e .elements ∙ read-back f g (λ x y. run (clipped x y) (before n ++ last n) t))
     (e .mark ∙ read-back f g (λ x y. hits x y (before n ++ last n) t))
 
--- what the next stage's code asks
-module _ {lo hi : ℤ} {t : List ℤ} {ss : List Step} {u : List ℤ} {r : Bool} (w : Walked lo hi t ss u r) where
-  pub ask-turns : {flip : Bool} {ps : List ℕ} {cs : List ℤ} → length ps ≡ length cs → T (fitting (turns flip ps cs) (run sizes ss small)) → Turning flip ps cs u
-  ask-turns e k = record { even = e; able = record { β = run sizes ss small; inside = w .inside; ok = k } }
+-- what the next stage's code asks: the first turns of the inputs go by `tx64`, the others do not. The test is computed for both.
+pub either : (P : Bool → Type 0) → P true → P false → (b : Bool) → P b
+either P t f true = t
+either P t f false = f
 
-  pub ask-joins : {ps : List ℕ} → T (fitting (joins ps) (run sizes ss small)) → Joining ps u (toZ w32 (ofZ w32 lo)) (toZ w32 (ofZ w32 hi))
-  ask-joins k = record { able = record { β = run sizes ss small; inside = w .inside; ok = k }; ends = to2 Ends (w .low-fits) (w .high-fits) (w .ends) }
+abbrev pub by-tx64 : Bool → Bool
+by-tx64 h = h
+
+abbrev pub in-full : Bool → Bool
+in-full h = false
+
+module _ {lo hi : ℤ} {t : List ℤ} {ss : List Step} {u : List ℤ} {r : Bool} where
+  pub ask-turns : (f : Bool → Bool) {h flip : Bool} {ps : List ℕ} {cs : List ℤ} → Walked h lo hi t ss u r → length ps ≡ length cs
+      → T (fitting (f true) (turns flip ps cs) (run sizes ss (small true))) → T (fitting (f false) (turns flip ps cs) (run sizes ss (small false))) → Turning (f h) flip ps cs u
+  ask-turns f {h} {flip} {ps} {cs} w e k l =
+      record { even = e; able = record { β = run sizes ss (small h); inside = w .inside; ok = either (λ b. T (fitting (f b) (turns flip ps cs) (run sizes ss (small b)))) k l h } }
+
+  pub ask-joins : {h : Bool} {ps : List ℕ} → Walked h lo hi t ss u r
+      → T (fitting false (joins ps) (run sizes ss (small true))) → T (fitting false (joins ps) (run sizes ss (small false))) → Joining ps u (toZ w32 (ofZ w32 lo)) (toZ w32 (ofZ w32 hi))
+  ask-joins {h} {ps} w k l = record {
+    able = record { β = run sizes ss (small h); inside = w .inside; ok = either (λ b. T (fitting false (joins ps) (run sizes ss (small b)))) k l h };
+    ends = to2 Ends (w .low-fits) (w .high-fits) (w .ends);
+  }

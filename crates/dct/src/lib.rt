@@ -1,13 +1,48 @@
 // The DCTs of src/itx_1d.rs on a work array that holds the inputs in bit-reversed order.
 ghost use mathlib.Core.Path.{_≡_};
+ghost use mathlib.Core.Bool.{true, false};
+ghost use Prim.Native.Nat.{_<_};
 ghost use mathlib.Core.List.{_∷_, []};
 ghost use Rattle.av1.specs.Network as Network;
 ghost use Rattle.av1.specs.Values.{exact};
-ghost use Rattle.dct.specs.Fitting.{Turnable, Mixable};
+ghost use Rattle.dct.specs.Fitting.{Turnable, Lonely, Mixable};
 ghost use Rattle.dct.specs.Stages as Stages;
 use intops::dot;
 use intops::iclip;
 use intops::outside;
+use intops::scaled;
+
+// The two results of a turn.
+fn store(t: &mut [i32; 32], a: usize, b: usize, u: i32, v: i32, flip: bool)
+    requires { ⌜ (a < 32) × (b < 32) ⌝ }
+    ensures { λ _. ⌜ now (t .exit) ≡ Stages.stored a b flip u v (now (t .entry)) ⌝ }
+{
+    if flip {
+        t[a] = v;
+        t[b] = u;
+    } else {
+        t[a] = u;
+        t[b] = v;
+    }
+}
+
+// B of section 7.13.2.2 where the element at the odd place is zero: the crate's `tx64` branches. It is not read.
+fn lone(t: &mut [i32; 32], a: usize, b: usize, cos: i32, sin: i32, flip: bool)
+    requires { ⌜ Lonely (now t) a b cos sin ⌝ }
+    ensures { λ _. ⌜ now (t .exit) ≡ Network.step exact (Network.B a b cos sin flip) (now (t .entry)) ⌝ }
+{
+    if a % 2 == 0 {
+        let x = t[a];
+        let u = scaled(x, cos);
+        let v = scaled(x, sin);
+        store(t, a, b, u, v, flip);
+    } else {
+        let y = t[b];
+        let u = scaled(y, -sin);
+        let v = scaled(y, cos);
+        store(t, a, b, u, v, flip);
+    }
+}
 
 // B of section 7.13.2.2.
 fn turn(t: &mut [i32; 32], a: usize, b: usize, cos: i32, sin: i32, flip: bool)
@@ -18,13 +53,7 @@ fn turn(t: &mut [i32; 32], a: usize, b: usize, cos: i32, sin: i32, flip: bool)
     let y = t[b];
     let u = dot(x, cos, y, -sin);
     let v = dot(x, sin, y, cos);
-    if flip {
-        t[a] = v;
-        t[b] = u;
-    } else {
-        t[a] = u;
-        t[b] = v;
-    }
+    store(t, a, b, u, v, flip);
 }
 
 // H of section 7.13.2.2 with the crate's clips, and whether one of them changed a value.
@@ -51,7 +80,7 @@ fn join(t: &mut [i32; 32], a: usize, b: usize, min: i32, max: i32) -> bool
 
 // A stage of turns: `pairs` has a, b for each, `angles` cosine, sine.
 fn turns(t: &mut [i32; 32], pairs: &[usize], angles: &[i32], flip: bool)
-    requires { ⌜ Stages.Turning flip (now pairs) (now angles) (now t) ⌝ }
+    requires { ⌜ Stages.Turning false flip (now pairs) (now angles) (now t) ⌝ }
     ensures { λ _. ⌜ now (t .exit) ≡ Network.run exact (Stages.turns flip (now (pairs .entry)) (now (angles .entry))) (now (t .entry)) ⌝ }
 {
     let mut i = 0;
@@ -63,6 +92,34 @@ fn turns(t: &mut [i32; 32], pairs: &[usize], angles: &[i32], flip: bool)
         turn(&mut *t, a, b, cos, sin, flip);
         i += 2;
     }
+}
+
+// The same where of each turn the element at the odd place is zero.
+fn lones(t: &mut [i32; 32], pairs: &[usize], angles: &[i32], flip: bool)
+    requires { ⌜ Stages.Turning true flip (now pairs) (now angles) (now t) ⌝ }
+    ensures { λ _. ⌜ now (t .exit) ≡ Network.run exact (Stages.turns flip (now (pairs .entry)) (now (angles .entry))) (now (t .entry)) ⌝ }
+{
+    let mut i = 0;
+    while i + 1 < pairs.len() {
+        let a = pairs[i];
+        let b = pairs[i + 1];
+        let cos = angles[i];
+        let sin = angles[i + 1];
+        lone(&mut *t, a, b, cos, sin, flip);
+        i += 2;
+    }
+}
+
+// The first turns of the inputs. Two loops, so that each becomes plain steps where the table is known, and no table is laid on the stack.
+fn first(t: &mut [i32; 32], tx64: bool, pairs: &[usize], angles: &[i32], flip: bool)
+    requires { ⌜ Stages.Turning tx64 flip (now pairs) (now angles) (now t) ⌝ }
+    ensures { λ _. ⌜ now (t .exit) ≡ Network.run exact (Stages.turns flip (now (pairs .entry)) (now (angles .entry))) (now (t .entry)) ⌝ }
+{
+    if tx64 {
+        lones(t, pairs, angles, flip);
+        return;
+    }
+    turns(t, pairs, angles, flip);
 }
 
 // A stage of butterflies: `pairs` has a, b for each.
@@ -84,23 +141,30 @@ fn joins(t: &mut [i32; 32], pairs: &[usize], min: i32, max: i32) -> bool
     mark
 }
 
-// inv_dct4_1d_internal_c with `tx64` 0, on the first four elements. What it leaves is in the order of the outputs.
-pub fn dct4(t: &mut [i32; 32], min: i32, max: i32) -> bool
-    requires { ⌜ Stages.Ready (now t) min max ⌝ }
+// inv_dct4_1d_internal_c on the first four elements. What it leaves is in the order of the outputs. With `tx64` the upper half of the inputs, which stands
+// at the odd places, is zero.
+pub fn dct4(t: &mut [i32; 32], tx64: bool, min: i32, max: i32) -> bool
+    requires { ⌜ Stages.Ready tx64 (now t) min max ⌝ }
     ensures { λ r. ⌜ Stages.Through 1 min max (now (t .entry)) (now (t .exit)) r ⌝ }
 {
-    turns(&mut *t, &[0, 1], &[2896, 2896], true);
-    turns(&mut *t, &[2, 3], &[1567, 3784], false);
+    first(&mut *t, tx64, &[0, 1], &[2896, 2896], true);
+    first(&mut *t, tx64, &[2, 3], &[1567, 3784], false);
     joins(&mut *t, &[0, 3, 1, 2], min, max)
 }
 
 // inv_dct8_1d_internal_c: the half on the even inputs, which stand first, the odd ones, and the last butterflies. Each may raise the mark.
-pub fn dct8(t: &mut [i32; 32], min: i32, max: i32) -> bool
-    requires { ⌜ Stages.Ready (now t) min max ⌝ }
+pub fn dct8(t: &mut [i32; 32], tx64: bool, min: i32, max: i32) -> bool
+    requires { ⌜ Stages.Ready tx64 (now t) min max ⌝ }
     ensures { λ r. ⌜ Stages.Through 2 min max (now (t .entry)) (now (t .exit)) r ⌝ }
 {
-    let half = dct4(&mut *t, min, max);
-    turns(&mut *t, &[4, 7, 5, 6], &[799, 4017, 3406, 2276], false);
+    let half = dct4(&mut *t, tx64, min, max);
+    first(
+        &mut *t,
+        tx64,
+        &[4, 7, 5, 6],
+        &[799, 4017, 3406, 2276],
+        false,
+    );
     let odd = joins(&mut *t, &[4, 5, 7, 6], min, max);
     turns(&mut *t, &[6, 5], &[2896, 2896], true);
     let last = joins(&mut *t, &[0, 7, 1, 6, 2, 5, 3, 4], min, max);
@@ -118,12 +182,12 @@ const JOINS16A: [usize; 8] = [8, 11, 9, 10, 15, 12, 14, 13];
 const LAST16: [usize; 16] = [0, 15, 1, 14, 2, 13, 3, 12, 4, 11, 5, 10, 6, 9, 7, 8];
 
 // inv_dct16_1d_internal_c.
-pub fn dct16(t: &mut [i32; 32], min: i32, max: i32) -> bool
-    requires { ⌜ Stages.Ready (now t) min max ⌝ }
+pub fn dct16(t: &mut [i32; 32], tx64: bool, min: i32, max: i32) -> bool
+    requires { ⌜ Stages.Ready tx64 (now t) min max ⌝ }
     ensures { λ r. ⌜ Stages.Through 3 min max (now (t .entry)) (now (t .exit)) r ⌝ }
 {
-    let half = dct8(&mut *t, min, max);
-    turns(&mut *t, &TURNS16, &ANGLES16, false);
+    let half = dct8(&mut *t, tx64, min, max);
+    first(&mut *t, tx64, &TURNS16, &ANGLES16, false);
     let odd = joins(&mut *t, &JOINS16, min, max);
     turns(&mut *t, &[14, 9, 13, 10], &[1567, 3784, -3784, 1567], true);
     let odd_a = joins(&mut *t, &JOINS16A, min, max);
@@ -245,12 +309,12 @@ const OUTER32: [usize; 16] = [0, 31, 1, 30, 2, 29, 3, 28, 4, 27, 5, 26, 6, 25, 7
 const INNER32: [usize; 16] = [8, 23, 9, 22, 10, 21, 11, 20, 12, 19, 13, 18, 14, 17, 15, 16];
 
 // inv_dct32_1d_internal_c.
-pub fn dct32(t: &mut [i32; 32], min: i32, max: i32) -> bool
-    requires { ⌜ Stages.Ready (now t) min max ⌝ }
+pub fn dct32(t: &mut [i32; 32], tx64: bool, min: i32, max: i32) -> bool
+    requires { ⌜ Stages.Ready tx64 (now t) min max ⌝ }
     ensures { λ r. ⌜ Stages.Through 4 min max (now (t .entry)) (now (t .exit)) r ⌝ }
 {
-    let half = dct16(&mut *t, min, max);
-    turns(&mut *t, &TURNS32, &ANGLES32, false);
+    let half = dct16(&mut *t, tx64, min, max);
+    first(&mut *t, tx64, &TURNS32, &ANGLES32, false);
     let odd = joins(&mut *t, &JOINS32, min, max);
     turns(&mut *t, &TURNS32A, &ANGLES32A, true);
     let odd_a = joins(&mut *t, &JOINS32A, min, max);

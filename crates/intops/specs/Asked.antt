@@ -11,6 +11,11 @@ pub record Dot (x p y q : ℤ) : Type 0 where
   pub y-small : natAbs y ≤ 524288
   pub q-small : natAbs q ≤ 4096
 
+-- one of each, of which the second is no whole turn
+pub record Single (x p : ℤ) : Type 0 where
+  pub x-small : natAbs x ≤ 524288
+  pub p-small : natAbs p ≤ 4095
+
 -- a cosine or sine as 4096 times a whole number, and at most half of it
 abbrev pub carry : ℤ → ℤ
 carry p = cond (ltZ (pos 2048) p) (pos 1) (cond (ltZ p (negsuc 2047)) (negsuc 0) (pos 0))

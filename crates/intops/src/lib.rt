@@ -5,7 +5,7 @@ ghost use lib.IntN.{ℤ, _+ℤ_, _*ℤ_, natAbs};
 ghost use Rattle.whole.specs.Numbers.{clip, round2};
 ghost use Rattle.whole.specs.Numbers as Numbers;
 ghost use Rattle.intops.specs.Asked as Asked;
-ghost use Rattle.intops.specs.Asked.{Dot, Slim};
+ghost use Rattle.intops.specs.Asked.{Dot, Slim, Single};
 
 pub fn iclip(v: i32, min: i32, max: i32) -> i32
     ensures { λ r. ⌜ r ≡ clip v min max ⌝ }
@@ -32,6 +32,14 @@ pub fn dot(x: i32, p: i32, y: i32, q: i32) -> i32
     ensures { λ r. ⌜ r ≡ round2 (x *ℤ p +ℤ y *ℤ q) 12 ⌝ }
 {
     (x as i64 * p as i64 + y as i64 * q as i64 + 2048 >> 12) as i32
+}
+
+// x·p by 4096, rounded: a rotation of x alone, as in the crate's `tx64` branches. 32 bits hold the product.
+pub fn scaled(x: i32, p: i32) -> i32
+    requires { ⌜ Single x p ⌝ }
+    ensures { λ r. ⌜ r ≡ round2 (x *ℤ p) 12 ⌝ }
+{
+    x * p + 2048 >> 12
 }
 
 // How often 4096 is taken out of a constant, so that no more than half of it is left.

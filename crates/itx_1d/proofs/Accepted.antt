@@ -3,16 +3,15 @@ use mathlib.Core.Path.{_≡_, refl, sym, ap, _∙_, subst, subst⁻¹}
 use mathlib.Core.Bool.{Bool, true, false, not, _&&_, _||_}
 use mathlib.Core.List.{List, [], _∷_}
 use mathlib.Core.Option.{Option, none, some}
-use Prim.Native.Nat.{ℕ, _*_, _-_, _≤_, _<_}
+use Prim.Native.Nat.{ℕ, _*_, _-_, _/_, _≤_, _<_}
 use native.Mathlib.Omega.{arith}
 use lib.Dec.{T, eqb, leb}
-use lib.IntN.{ℤ, natAbs}
+use lib.IntN.{ℤ, pos, natAbs}
 use lib.ListN.{length}
 use borrow.Author.Tests.{eqb-false}
 use mir.Facts.{and-yes}
 use mir.Syntax.{w32}
 use mir.Val.{SFits, toZ, ofZ}
-use mir.ValLaws.{toZ-ofZ}
 use denote.Enum.Declared.{tagOf}
 use types.Run.{OneOf, miss}
 use Rattle.whole.specs.Numbers.{same, outside, low, high}
@@ -20,15 +19,15 @@ use Rattle.whole.specs.Lists.{at, first}
 use Rattle.whole.specs.Checks.{accept, unless, unless-at}
 use Rattle.whole.proofs.Clips.{inside-abs}
 use Rattle.whole.proofs.Counts.{first-none}
-use Rattle.whole.proofs.Held.{same-is}
+use Rattle.whole.proofs.Held.{from2, same-is}
 use Rattle.av1.specs.Sides.{Side, len, side}
 use Rattle.itx_1d.specs.declared.Kind.{Kind}
 use Rattle.itx_1d.specs.declared.Kind.the-variants.{Wht}
 use Rattle.itx_1d.specs.declared.Pass.{Pass}
 use Rattle.itx_1d.specs.declared.Pass.the-variants.{Done, Range, Stride, Short, Element}
 use Rattle.itx_1d.specs.Passes.{Passed, pass}
-use Rattle.itx_1d.specs.Calls.{Outcome, acceptance, taken, put, outcome-of, is-range, bad-range, accepted, ranged, Meets}
-use Rattle.itx_1d.specs.Inner.{after, range-check, place-check, element-check, Passable, Ranged, PassIs}
+use Rattle.itx_1d.specs.Calls.{Outcome, acceptance, taken, put, outcome-of, is-range, bad-range, accepted, ranged, halved, Meets}
+use Rattle.itx_1d.specs.Inner.{after, range-check, place-check, element-check, Seen, Ranged, PassIs, looked, dct-reading, called}
 use Rattle.itx_1d.proofs.Pass.{the-type}
 use Rattle.itx_1d.proofs.Checks.{is-done, refuse}
 use Rattle.itx_1d.proofs.Strides.{in-reach}
@@ -65,52 +64,62 @@ refused-is false false false none c out h = absurd (miss (1 ∷ 2 ∷ 3 ∷ 4 �
 
 -- ---- what is known after an acceptance
 
-pub passable : {t : Bool} (c : List ℤ) (s n : ℕ) (lo hi : ℤ) {k : ℕ} → len (side n) ≡ n → natAbs lo ≤ k → natAbs hi ≤ k
-    → Good t (eqb s 0) (leb (length c) ((n - 1) * s)) (first n (λ i. outside (at c (i * s)) lo hi)) → Passable c s n k
-passable c s n lo hi e l h g =
+pub seen : {t : Bool} (c : List ℤ) (s n looked : ℕ) (lo hi : ℤ) {k : ℕ} → len (side n) ≡ n → natAbs lo ≤ k → natAbs hi ≤ k
+    → Good t (eqb s 0) (leb (length c) ((n - 1) * s)) (first looked (λ i. outside (at c (i * s)) lo hi)) → Seen c s n looked k
+seen c s n looked lo hi e l h g =
     let nonzero = eqb-false s 0 (g .stride) in
     record {
       reaches = record { is-length = e; some-stride = omega arith; inside = in-reach c n s (g .short) };
-      small = λ j b. inside-abs (at c (j * s)) lo hi (first-none n (λ i. outside (at c (i * s)) lo hi) (g .elements) j b) l h;
+      small = λ j b. inside-abs (at c (j * s)) lo hi (first-none looked (λ i. outside (at c (i * s)) lo hi) (g .elements) j b) l h;
     }
 
-of-range : (lo hi : ℤ) (m : ℕ) → T (is-range lo hi m) → natAbs (low m) ≡ m → m ≤ 524288 → Ranged lo hi
-of-range lo hi m t e l =
-    let p = and-yes (same lo (low m)) (same hi (high m)) t in
-    let q = same-is lo (low m) (p .0) in
-    let size = ap natAbs q ∙ e in
-    record {
-      low-is = q ∙ ap low (sym size);
-      high-is = same-is hi (high m) (p .1) ∙ ap high (sym size);
-      small = subst⁻¹ (λ (k : ℕ). k ≤ 524288) size l;
-    }
+-- what holds of the three ranges holds of a range that is not bad
+of-ranges : (P : ℤ → ℤ → Type 0) → P (low 32768) (high 32768) → P (low 131072) (high 131072) → P (low 524288) (high 524288) → (lo hi : ℤ) → bad-range lo hi ≡ false → P lo hi
+of-ranges P a b c lo hi e = go (is-range lo hi 32768) (is-range lo hi 131072) (is-range lo hi 524288) refl refl refl e
+  where
+    is : (m : ℕ) → is-range lo hi m ≡ true → P (low m) (high m) → P lo hi
+    is m t p =
+        let q = and-yes (same lo (low m)) (same hi (high m)) (subst T (sym t) tt) in
+        subst⁻¹ (λ (z : ℤ). P z hi) (same-is lo (low m) (q .0)) (subst⁻¹ (P (low m)) (same-is hi (high m) (q .1)) p)
+
+    go : (p q r : Bool) → is-range lo hi 32768 ≡ p → is-range lo hi 131072 ≡ q → is-range lo hi 524288 ≡ r → not ((p || q) || r) ≡ false → P lo hi
+    go true q r x y z e = is 32768 x a
+    go false true r x y z e = is 131072 y b
+    go false false true x y z e = is 524288 z c
+    go false false false x y z e = refuse (sym e)
 
 pub ranged-of : (lo hi : ℤ) → bad-range lo hi ≡ false → Ranged lo hi
-ranged-of lo hi e = go (is-range lo hi 32768) (is-range lo hi 131072) (is-range lo hi 524288) refl refl refl e
-  where
-    go : (p q r : Bool) → is-range lo hi 32768 ≡ p → is-range lo hi 131072 ≡ q → is-range lo hi 524288 ≡ r → not ((p || q) || r) ≡ false → Ranged lo hi
-    go true q r a b c e = of-range lo hi 32768 (subst T (sym a) tt) refl (omega arith)
-    go false true r a b c e = of-range lo hi 131072 (subst T (sym b) tt) refl (omega arith)
-    go false false true a b c e = of-range lo hi 524288 (subst T (sym c) tt) refl (omega arith)
-    go false false false a b c e = refuse (sym e)
+ranged-of =
+    of-ranges Ranged (record { low-is = refl; high-is = refl; small = omega arith }) (record { low-is = refl; high-is = refl; small = omega arith })
+    (record { low-is = refl; high-is = refl; small = omega arith })
+
+-- each holds zero
+pub zero-inside : (lo hi : ℤ) → bad-range lo hi ≡ false → outside (pos 0) lo hi ≡ false
+unfolding outside
+zero-inside = of-ranges (λ lo hi. outside (pos 0) lo hi ≡ false) refl refl refl
 
 -- a caller's range, as a callee reads it
-pub plain : (kind : Kind) (n : Side) (c : List ℤ) (s : ℕ) {d : List ℤ} {lo hi : ℤ} {r : Pass} → SFits w32 lo → SFits w32 hi
-    → Meets (ranged kind n c s (toZ w32 (ofZ w32 lo)) (toZ w32 (ofZ w32 hi))) r d → Meets (ranged kind n c s lo hi) r d
-plain kind n c s {d} {lo} {hi} {r} f g m =
-    subst (λ (o : Outcome). Meets o r d) (λ i. ranged kind n c s (toZ-ofZ w32 lo f i) (toZ-ofZ w32 hi g i)) m
+pub plain : (f : ℤ → ℤ → Outcome) {d : List ℤ} {lo hi : ℤ} {r : Pass} → SFits w32 lo → SFits w32 hi → Meets (f (toZ w32 (ofZ w32 lo)) (toZ w32 (ofZ w32 hi))) r d → Meets (f lo hi) r d
+plain f {d} {r = r} p q m = from2 (λ lo hi. Meets (f lo hi) r d) p q m
 
 -- ---- the definitions, with the length as the code has it
 
-pub ranged-is : (kind : Kind) (n : ℕ) (c : List ℤ) (s : ℕ) (lo hi : ℤ) → len (side n) ≡ n
-    → ranged kind (side n) c s lo hi ≡ defined (bad-range lo hi) (eqb s 0) (leb (length c) ((n - 1) * s)) (first n (λ i. outside (at c (i * s)) lo hi)) c (accepted kind (side n) (natAbs lo) s c)
-unfolding ranged
-ranged-is kind n c s lo hi e = λ i. defined (bad-range lo hi) (eqb s 0) (leb (length c) ((e i - 1) * s)) (first (e i) (λ j. outside (at c (j * s)) lo hi)) c (accepted kind (side n) (natAbs lo) s c)
+-- the pass of a call that is not refused
+abbrev pub passed : Bool → Kind → ℕ → ℤ → List ℤ → Passed
+passed true kind n lo = dct-reading true (side n) (natAbs lo)
+passed false kind n lo = pass kind (side n) (natAbs lo)
 
-pub done : {kind : Kind} {n s m : ℕ} {c d : List ℤ} {r : Bool} → len (side n) ≡ n → PassIs kind n s m c d r → Meets (accepted kind (side n) m s c) (Done r) d
-done {kind} {n} {s} {m} {c} e p = record {
-  answer = ap acceptance (p .mark) ∙ (λ i. acceptance (pass kind (side n) m (taken c s (sym e i)) .mark));
-  elements = p .elements ∙ (λ i. put c s (pass kind (side n) m (taken c s (sym e i)) .values) (sym e i));
+pub called-is : (tx64 : Bool) (kind : Kind) (n : ℕ) (c : List ℤ) (s : ℕ) (lo hi : ℤ) → len (side n) ≡ n
+    → called tx64 kind (side n) c s lo hi
+    ≡ defined (bad-range lo hi) (eqb s 0) (leb (length c) ((n - 1) * s)) (first (looked tx64 n) (λ i. outside (at c (i * s)) lo hi)) c (accepted (passed tx64 kind n lo) (side n) s c)
+unfolding ranged halved
+called-is true kind n c s lo hi e = λ i. defined (bad-range lo hi) (eqb s 0) (leb (length c) ((e i - 1) * s)) (first (e i / 2) (λ j. outside (at c (j * s)) lo hi)) c (accepted (passed true kind n lo) (side n) s c)
+called-is false kind n c s lo hi e = λ i. defined (bad-range lo hi) (eqb s 0) (leb (length c) ((e i - 1) * s)) (first (e i) (λ j. outside (at c (j * s)) lo hi)) c (accepted (passed false kind n lo) (side n) s c)
+
+pub done : (f : List ℤ → Passed) (n s : ℕ) (c : List ℤ) {d : List ℤ} {r : Bool} → len (side n) ≡ n → d ≡ put c s (f (taken c s n) .values) n → r ≡ f (taken c s n) .mark → Meets (accepted f (side n) s c) (Done r) d
+done f n s c e p q = record {
+  answer = ap acceptance q ∙ (λ i. acceptance (f (taken c s (sym e i)) .mark));
+  elements = p ∙ (λ i. put c s (f (taken c s (sym e i)) .values) (sym e i));
 }
 
 -- a WHT looks at no range

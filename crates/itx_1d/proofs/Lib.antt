@@ -5,4 +5,5 @@ pub mod Strides
 pub mod Through
 pub mod Checks
 pub mod Accepted
+pub mod Half
 pub mod Unique

@@ -1,22 +1,23 @@
 -- Reading and writing the elements 0, s, 2s, .. of a list, once over the count.
 use mathlib.Core.Path.{_≡_, refl, sym, ap, _∙_, subst}
 use mathlib.Core.Logic.{_≢_}
-use mathlib.Core.Bool.{false, _&&_}
+use mathlib.Core.Bool.{Bool, true, false, cond, _&&_}
 use mathlib.Core.List.{List, [], _∷_, _++_}
-use Prim.Native.Nat.{ℕ, zero, suc, _+_, _*_, _-_, _/_, _≤_, _<_}
+use Prim.Native.Nat.{ℕ, zero, suc, _+_, _*_, _-_, _/_, _%_, _≤_, _<_}
 use native.Mathlib.Nat.{eq-of-mul-eq-mul-right, mul-le-mul-right, lt-of-le-of-lt}
 use native.Mathlib.Omega.{arith}
 use lib.IntN.{ℤ, pos}
 use lib.ListN.{getD, set, length, replicate, length-set}
 use lib.Seq.{getD-set-same, getD-set-other}
-use lib.Dec.{T, ltb, ltb→lt, leb, leb→le}
-use borrow.Author.Tests.{leb-false}
+use lib.Dec.{T, eqb, ltb, ltb→lt, leb, leb→le}
+use borrow.Author.Tests.{leb-false, le-ltb, lt-ltb}
 use mir.Facts.{and-yes}
 use Rattle.whole.specs.Lists.{at, tab}
-use Rattle.whole.proofs.Counts.{last-or-less}
+use Rattle.whole.proofs.Counts.{tab-at, last-or-less}
 use Rattle.av1.specs.Sides.{Side, of4, of8, of16, of32, len, side}
+use Rattle.itx_1d.specs.Passes.{lower}
 use Rattle.itx_1d.specs.Calls.{put}
-use Rattle.itx_1d.specs.Inner.{revs, source, sources-below}
+use Rattle.itx_1d.specs.Inner.{revs, source, sources-below, read, looked}
 
 -- ---- the lengths
 
@@ -60,16 +61,48 @@ in-reach c n s e j h =
 pub record Source (n i : ℕ) : Type 0 where
   pub in-table : i * (32 / n) < 32
   pub below : source n i < n
+  pub half : T (cond (eqb (i % 2) 1) (leb (n / 2) (source n i)) (ltb (source n i) (n / 2)))
 
 source-of : (n k : ℕ) → T (sources-below n k) → (i : ℕ) → i < k → Source n i
 source-of n zero t i h = let f : ⊥ = omega arith in absurd f
 source-of n (suc k) t i h =
-    let q = and-yes (ltb (k * (32 / n)) 32 && ltb (source n k) n) (sources-below n k) t in
-    let r = and-yes (ltb (k * (32 / n)) 32) (ltb (source n k) n) (q .0) in
-    last-or-less i k (Source n) h (record { in-table = ltb→lt _ 32 (r .0); below = ltb→lt _ n (r .1) }) (source-of n k (q .1) i)
+    let place = cond (eqb (k % 2) 1) (leb (n / 2) (source n k)) (ltb (source n k) (n / 2)) in
+    let q = and-yes ((ltb (k * (32 / n)) 32 && ltb (source n k) n) && place) (sources-below n k) t in
+    let p = and-yes (ltb (k * (32 / n)) 32 && ltb (source n k) n) place (q .0) in
+    let r = and-yes (ltb (k * (32 / n)) 32) (ltb (source n k) n) (p .0) in
+    last-or-less i k (Source n) h (record { in-table = ltb→lt _ 32 (r .0); below = ltb→lt _ n (r .1); half = p .1 }) (source-of n k (q .1) i)
 
 pub source-at : (n : ℕ) → len (side n) ≡ n → (i : ℕ) → i < n → Source n i
 source-at n e i h = source-of n n (of-length (λ k. T (sources-below k k)) all-below n e) i h
+
+-- ---- what is read: where it is the lower half, the odd places have zeros, and the others what they have of all
+
+lower-at : (n : ℕ) → len (side n) ≡ n → (xs : List ℤ) (j : ℕ) → j < n → at (lower (side n) xs) j ≡ cond (ltb j (n / 2)) (at xs j) (pos 0)
+lower-at n e xs j h =
+    tab-at (len (side n)) (λ i. cond (ltb i (len (side n) / 2)) (at xs i) (pos 0)) (pos 0) j (subst (λ (k : ℕ). j < k) (sym e) h) ∙ (λ i. cond (ltb j (e i / 2)) (at xs j) (pos 0))
+
+module _ (n : ℕ) (e : len (side n) ≡ n) (i : ℕ) (h : i < n) where
+  abbrev from : Source n i
+  from = source-at n e i h
+
+  placed : {odd : Bool} → eqb (i % 2) 1 ≡ odd → T (cond odd (leb (n / 2) (source n i)) (ltb (source n i) (n / 2)))
+  placed p = subst (λ (b : Bool). T (cond b (leb (n / 2) (source n i)) (ltb (source n i) (n / 2)))) p (from .half)
+
+  pub odd-high : eqb (i % 2) 1 ≡ true → n / 2 ≤ source n i
+  odd-high p = leb→le (n / 2) (source n i) (placed p)
+
+  pub read-in : (tx64 : Bool) → tx64 && eqb (i % 2) 1 ≡ false → source n i < looked tx64 n
+  read-in true p = ltb→lt (source n i) (n / 2) (placed p)
+  read-in false p = from .below
+
+  pub read-is : (tx64 : Bool) (xs : List ℤ) → tx64 && eqb (i % 2) 1 ≡ false → at (read tx64 (side n) xs) (source n i) ≡ at xs (source n i)
+  read-is true xs p = lower-at n e xs (source n i) (from .below) ∙ ap (λ (b : Bool). cond b (at xs (source n i)) (pos 0)) (lt-ltb (source n i) (n / 2) (read-in true p))
+  read-is false xs p = refl
+
+  pub unread-is : (tx64 : Bool) (xs : List ℤ) → tx64 && eqb (i % 2) 1 ≡ true → at (read tx64 (side n) xs) (source n i) ≡ pos 0
+  unread-is true xs p =
+      lower-at n e xs (source n i) (from .below) ∙ ap (λ (b : Bool). cond b (at xs (source n i)) (pos 0)) (le-ltb (source n i) (n / 2) (odd-high p))
+  unread-is false xs p = absurd (subst T (sym p) tt)
 
 -- one element more in front of the zeros
 set-tab : (i : ℕ) (f : ℕ → ℤ) (k : ℕ) → set (tab i f ++ replicate (suc k) (pos 0)) i (f i) ≡ tab (suc i) f ++ replicate k (pos 0)

@@ -1,9 +1,11 @@
 -- The DCT on the work array is document 01's pass on the elements.
 use mathlib.Core.Path.{_≡_, refl, sym, ap, _∙_, subst, subst⁻¹}
-use mathlib.Core.Bool.{Bool, cond}
+use mathlib.Core.Bool.{Bool, true, false, cond, _&&_}
 use mathlib.Core.List.{List, [], _∷_, _++_}
-use Prim.Native.Nat.{ℕ, zero, suc, _+_, _*_, _-_, _≤_, _<_}
+use Prim.Native.Nat.{ℕ, zero, suc, _+_, _*_, _-_, _%_, _≤_, _<_}
+use native.Mathlib.Nat.{le-trans, le-refl, div-le-self}
 use native.Mathlib.Omega.{arith}
+use lib.Dec.{eqb}
 use lib.IntN.{ℤ, pos, natAbs}
 use lib.ListN.{replicate, set}
 use borrow.Author.Tests.{ne-eqb}
@@ -12,39 +14,55 @@ use mir.Val.{SFits, toZ, ofZ}
 use Rattle.whole.specs.Numbers.{low, high}
 use Rattle.whole.specs.Lists.{at, tab}
 use Rattle.whole.specs.Both.{Both, none, one}
+use Rattle.whole.proofs.Counts.{tab-at}
 use Rattle.av1.specs.Sides.{Side, of4, of8, of16, of32, len, bits, side}
 use Rattle.av1.specs.Network.{permuted, run, steps}
 use Rattle.av1.specs.Values.{clipped, hits}
 use Rattle.dct.specs.Halves.{before, last}
 use Rattle.dct.specs.Fitting.{Small, Ends}
-use Rattle.dct.specs.Stages.{Through, small}
+use Rattle.dct.specs.Stages.{Through, reach, small}
 use Rattle.dct.proofs.Order.{order, mark-order}
 use Rattle.dct.proofs.Walk.{read-back}
 use Rattle.itx_1d.specs.declared.Kind.the-variants.{Dct}
 use Rattle.itx_1d.specs.Passes.{pass}
 use Rattle.itx_1d.specs.Calls.{taken, put}
-use Rattle.itx_1d.specs.Inner.{source, gathered, Passable, Ranged, PassIs}
-use Rattle.itx_1d.proofs.Strides.{source-at, at-most-32}
+use Rattle.itx_1d.specs.Inner.{source, gathered, read, looked, Seen, Ranged, DctIs}
+use Rattle.itx_1d.proofs.Strides.{at-most-32, read-in, read-is, unread-is}
 
 -- ---- the work array is small
 
-both-below : {A C : Type 0} {R : A → C → Type 0} (n : ℕ) (f : ℕ → A) (g : ℕ → C) → ((i : ℕ) → i < n → R (f i) (g i)) → {xs : List A} {us : List C} → Both R xs us → Both R (tab n f ++ xs) (tab n g ++ us)
-both-below zero f g h t = t
-both-below (suc n) f g h t = one (h zero (omega arith)) (both-below n (λ i. f (suc i)) (λ i. g (suc i)) (λ i l. h (suc i) (omega arith)) t)
+both-zeros : (k : ℕ) (g : ℕ → ℕ) → Both Small (replicate k (pos 0)) (tab k g)
+both-zeros zero g = none
+both-zeros (suc k) g = let h : 0 ≤ g zero = omega arith in one h (both-zeros k (λ i. g (suc i)))
 
-both-zeros : (k : ℕ) → Both Small (replicate k (pos 0)) (replicate k 524288)
-both-zeros zero = none
-both-zeros (suc k) = let h : 0 ≤ 524288 = omega arith in one h (both-zeros k)
+padded-small : (n k : ℕ) (f : ℕ → ℤ) (g : ℕ → ℕ) → ((i : ℕ) → i < n → natAbs (f i) ≤ g i) → Both Small (tab n f ++ replicate k (pos 0)) (tab (n + k) g)
+padded-small zero k f g h = let e : k ≡ 0 + k = omega arith in subst (λ (j : ℕ). Both Small (replicate k (pos 0)) (tab j g)) e (both-zeros k g)
+padded-small (suc n) k f g h =
+    let e : suc (n + k) ≡ suc n + k = omega arith in
+    subst (λ (j : ℕ). Both Small (tab (suc n) f ++ replicate k (pos 0)) (tab j g)) e (one (h zero (omega arith)) (padded-small n k (λ i. f (suc i)) (λ i. g (suc i)) (λ i l. h (suc i) (omega arith))))
 
-tab-replicate : (n k x : ℕ) → tab n (λ i. x) ++ replicate k x ≡ replicate (n + k) x
-tab-replicate zero k x = let e : k ≡ 0 + k = omega arith in ap (λ (j : ℕ). replicate j x) e
-tab-replicate (suc n) k x = let e : suc (n + k) ≡ suc n + k = omega arith in ap (λ (l : List ℕ). x ∷ l) (tab-replicate n k x) ∙ ap (λ (j : ℕ). replicate j x) e
+pub not-more : (tx64 : Bool) (n : ℕ) → looked tx64 n ≤ n
+not-more true n = div-le-self n 2
+not-more false n = le-refl n
 
-pub gathered-small : (c : List ℤ) (s n : ℕ) → Passable c s n 524288 → Both Small (gathered c s n) small
-gathered-small c s n p =
-    let all : n + (32 - n) ≡ 32 = omega (arith, at-most-32 n (p .reaches .is-length)) in
-    subst (Both Small (gathered c s n)) (tab-replicate n (32 - n) 524288 ∙ ap (λ (k : ℕ). replicate k 524288) all)
-    (both-below n (λ i. at c (source n i * s)) (λ i. 524288) (λ i l. p .small (source n i) (source-at n (p .reaches .is-length) i l .below)) (both-zeros (32 - n)))
+-- an element is as small as its place asks
+cell-small : (tx64 : Bool) (n : ℕ) (e : len (side n) ≡ n) (xs : List ℤ) → ((j : ℕ) → j < looked tx64 n → natAbs (at xs j) ≤ 524288)
+    → (i : ℕ) → i < n → natAbs (at (read tx64 (side n) xs) (source n i)) ≤ reach tx64 i
+cell-small tx64 n e xs p i h = go (tx64 && eqb (i % 2) 1) refl
+  where
+    go : (b : Bool) → tx64 && eqb (i % 2) 1 ≡ b → natAbs (at (read tx64 (side n) xs) (source n i)) ≤ cond b 0 524288
+    go true q = subst⁻¹ (λ (z : ℤ). natAbs z ≤ 0) (unread-is n e i h tx64 xs q) (omega arith)
+    go false q = subst⁻¹ (λ (z : ℤ). natAbs z ≤ 524288) (read-is n e i h tx64 xs q) (p (source n i) (read-in n e i h tx64 q))
+
+pub gathered-small : (tx64 : Bool) (n : ℕ) (e : len (side n) ≡ n) (xs : List ℤ) → ((j : ℕ) → j < looked tx64 n → natAbs (at xs j) ≤ 524288)
+    → Both Small (gathered (read tx64 (side n) xs) n) (small tx64)
+gathered-small tx64 n e xs p =
+    let all : n + (32 - n) ≡ 32 = omega (arith, at-most-32 n e) in
+    subst (λ (k : ℕ). Both Small (gathered (read tx64 (side n) xs) n) (tab k (reach tx64))) all (padded-small n (32 - n) (λ i. at (read tx64 (side n) xs) (source n i)) (reach tx64) (cell-small tx64 n e xs p))
+
+-- the elements of a list that are looked at
+pub taken-small : (tx64 : Bool) (c : List ℤ) (s n : ℕ) → Seen c s n (looked tx64 n) 524288 → (j : ℕ) → j < looked tx64 n → natAbs (at (taken c s n) j) ≤ 524288
+taken-small tx64 c s n p j h = subst⁻¹ (λ (z : ℤ). natAbs z ≤ 524288) (tab-at n (λ i. at c (i * s)) (pos 0) j (le-trans h (not-more tx64 n))) (p .small j h)
 
 pub ends-of : {lo hi : ℤ} → Ranged lo hi → Ends lo hi
 ends-of {lo} {hi} g =
@@ -68,28 +86,27 @@ unfolding put
 put-ext c s vs ws h zero = refl
 put-ext c s vs ws h (suc k) = λ i. set (put-ext c s vs ws h k i) (k * s) (h k i)
 
-abbrev element : List ℤ → ℕ → Side → ℕ → ℤ
-element c s k i = at c (source (len k) i * s)
-
 -- bit-reversed order is that of the table of section 7.13.2.3
-reversed : (lo hi : ℤ) (k : Side) (c : List ℤ) (s : ℕ) → tab (len k) (element c s k) ≡ permuted (clipped lo hi) (bits k) (taken c s (len k))
-reversed lo hi of4 c s = refl
-reversed lo hi of8 c s = refl
-reversed lo hi of16 c s = refl
-reversed lo hi of32 c s = refl
+reversed : (lo hi : ℤ) (k : Side) (xs : List ℤ) → tab (len k) (λ i. at xs (source (len k) i)) ≡ permuted (clipped lo hi) (bits k) xs
+reversed lo hi of4 xs = refl
+reversed lo hi of8 xs = refl
+reversed lo hi of16 xs = refl
+reversed lo hi of32 xs = refl
 
-module _ (k : Side) (m : ℕ) (c : List ℤ) (s : ℕ) {u : List ℤ} {r : Bool} (t : Through (bits k - 1) (low m) (high m) (gathered c s (len k)) u r) where
-  dct-values : put c s u (len k) ≡ put c s (pass Dct k m (taken c s (len k)) .values) (len k)
+module _ (k : Side) (m : ℕ) (xs : List ℤ) {u : List ℤ} {r : Bool} (t : Through (bits k - 1) (low m) (high m) (gathered xs (len k)) u r) where
+  abbrev cell : ℕ → ℤ
+  cell i = at xs (source (len k) i)
+
+  dct-value : (i : ℕ) → at u i ≡ at (pass Dct k m xs .values) i
   unfolding pass
-  dct-values =
+  dct-value i =
       let ran : List ℤ → List ℤ = run (clipped (low m) (high m)) (steps (bits k)) in
-      put-ext c s u (pass Dct k m (taken c s (len k)) .values)
-      (λ i. ap (λ (l : List ℤ). at l i) (t .elements ∙ order (clipped (low m) (high m)) k (element c s k))
-      ∙ at-padded (ran (tab (len k) (element c s k))) (32 - len k) i ∙ ap (λ (l : List ℤ). at (ran l) i) (reversed (low m) (high m) k c s)) (len k)
+      ap (λ (l : List ℤ). at l i) (t .elements ∙ order (clipped (low m) (high m)) k cell)
+      ∙ at-padded (ran (tab (len k) cell)) (32 - len k) i ∙ ap (λ (l : List ℤ). at (ran l) i) (reversed (low m) (high m) k xs)
 
-  dct-mark : r ≡ pass Dct k m (taken c s (len k)) .mark
+  dct-mark : r ≡ pass Dct k m xs .mark
   unfolding pass
-  dct-mark = t .mark ∙ mark-order (low m) (high m) k (element c s k) ∙ ap (hits (low m) (high m) (steps (bits k))) (reversed (low m) (high m) k c s)
+  dct-mark = t .mark ∙ mark-order (low m) (high m) k cell ∙ ap (hits (low m) (high m) (steps (bits k))) (reversed (low m) (high m) k xs)
 
 -- ---- a callee's ends, and the length that is none of the first three
 
@@ -99,22 +116,29 @@ through-held {n} {lo} {hi} {t} f g h = record {
   mark = h .mark ∙ read-back f g (λ x y. hits x y (before n ++ last n) t);
 }
 
--- the whole of a DCT pass
-pub dct-is : {lo hi : ℤ} {t u : List ℤ} {r : Bool} (c : List ℤ) (s n : ℕ) → Ranged lo hi → len (side n) ≡ n → t ≡ gathered c s n → Through (bits (side n) - 1) lo hi t u r
-    → PassIs Dct n s (natAbs lo) c (put c s u n) r
-dct-is {lo} {hi} {t} {u} {r} c s n g e q h =
-    let k = side n in
-    let m = natAbs lo in
-    let from = q ∙ ap (gathered c s) (sym e) in
-    let whole : Through (bits k - 1) (low m) (high m) (gathered c s (len k)) u r =
-    record {
-      elements = h .elements ∙ (λ i. run (clipped (g .low-is i) (g .high-is i)) (before (bits k - 1) ++ last (bits k - 1)) (from i));
-      mark = h .mark ∙ (λ i. hits (g .low-is i) (g .high-is i) (before (bits k - 1) ++ last (bits k - 1)) (from i));
-    } in
-    record {
-      elements = subst (λ (j : ℕ). put c s u j ≡ put c s (pass Dct k m (taken c s j) .values) j) e (dct-values k m c s whole);
-      mark = subst (λ (j : ℕ). r ≡ pass Dct k m (taken c s j) .mark) e (dct-mark k m c s whole);
-    }
+-- the whole of a DCT pass: of n elements xs
+module _ {lo hi : ℤ} {t u : List ℤ} {r : Bool} (n : ℕ) (xs : List ℤ) (g : Ranged lo hi) (e : len (side n) ≡ n) (q : t ≡ gathered xs n) (h : Through (bits (side n) - 1) lo hi t u r) where
+  through : Through (bits (side n) - 1) (low (natAbs lo)) (high (natAbs lo)) (gathered xs (len (side n))) u r
+  through =
+      let from = q ∙ ap (gathered xs) (sym e) in
+      let k = bits (side n) - 1 in
+      record {
+        elements = h .elements ∙ (λ i. run (clipped (g .low-is i) (g .high-is i)) (before k ++ last k) (from i));
+        mark = h .mark ∙ (λ i. hits (g .low-is i) (g .high-is i) (before k ++ last k) (from i));
+      }
+
+  pub value-is : (i : ℕ) → at u i ≡ at (pass Dct (side n) (natAbs lo) xs .values) i
+  value-is = dct-value (side n) (natAbs lo) xs through
+
+  pub mark-is : r ≡ pass Dct (side n) (natAbs lo) xs .mark
+  mark-is = dct-mark (side n) (natAbs lo) xs through
+
+-- and of the elements 0, s, 2s, .. of c
+pub dct-is : (tx64 : Bool) {lo hi : ℤ} {t u : List ℤ} {r : Bool} (c : List ℤ) (s n : ℕ) → Ranged lo hi → len (side n) ≡ n → t ≡ gathered (read tx64 (side n) (taken c s n)) n → Through (bits (side n) - 1) lo hi t u r
+    → DctIs tx64 n s (natAbs lo) c (put c s u n) r
+dct-is tx64 {lo} {u = u} c s n g e q h =
+    let xs = read tx64 (side n) (taken c s n) in
+    record { elements = put-ext c s u (pass Dct (side n) (natAbs lo) xs .values) (value-is n xs g e q h) n; mark = mark-is n xs g e q h }
 
 -- of length n, where k is n's side
 pub through-as : {lo hi : ℤ} {t u : List ℤ} {r : Bool} (n : ℕ) (k : Side) → side n ≡ k → SFits w32 lo → SFits w32 hi → Through (bits k - 1) (toZ w32 (ofZ w32 lo)) (toZ w32 (ofZ w32 hi)) t u r → Through (bits (side n) - 1) lo hi t u r

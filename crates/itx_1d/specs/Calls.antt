@@ -1,16 +1,16 @@
--- The public passes: document 01, "One-dimensional passes" and "Numbers of refusal", 11 to 14.
+-- The public passes: document 01, "One-dimensional passes" and "Numbers of refusal", 11 to 14; request E13.
 use mathlib.Core.Bool.{Bool, true, false, not, cond, _&&_, _||_}
 use mathlib.Core.List.{List}
 use mathlib.Core.Path.{_≡_}
-use Prim.Native.Nat.{ℕ, zero, suc, _*_, _-_}
+use Prim.Native.Nat.{ℕ, zero, suc, _*_, _-_, _/_}
 use lib.Dec.{eqb, leb}
-use lib.IntN.{ℤ, natAbs}
+use lib.IntN.{ℤ, pos, natAbs}
 use lib.ListN.{length, set}
 use Rattle.whole.specs.Numbers.{same, outside, low, high}
 use Rattle.whole.specs.Lists.{at, tab, first}
 use Rattle.whole.specs.Checks.{Check, accept, refuse, unless, unless-at}
 use Rattle.av1.specs.Sides.{Side, of4, len}
-use Rattle.itx_1d.specs.Passes.{Passed, pass}
+use Rattle.itx_1d.specs.Passes.{Passed, pass, filled, lower}
 use Rattle.itx_1d.specs.declared.Kind.{Kind}
 use Rattle.itx_1d.specs.declared.Kind.the-variants.{Dct, Identity, Wht}
 use Rattle.itx_1d.specs.declared.Pass.{Pass}
@@ -54,18 +54,18 @@ pub record Outcome : Type 0 where
   pub answer : Answer
   pub elements : List ℤ
 
--- an accepted pass, of the range -m .. m - 1
-abbrev pub accepted : Kind → Side → ℕ → ℕ → List ℤ → Outcome
-accepted kind n m s c =
-    let p = pass kind n m (taken c s (len n)) in
+-- an accepted pass f
+abbrev pub accepted : (List ℤ → Passed) → Side → ℕ → List ℤ → Outcome
+accepted f n s c =
+    let p = f (taken c s (len n)) in
     record { answer = acceptance (p .mark); elements = put c s (p .values) (len n) }
 
--- numbers 12 to 14, in order, of the range lo .. hi
-abbrev pub checks : ℕ → List ℤ → ℕ → ℤ → ℤ → Check (Unit {0})
-checks n c s lo hi =
+-- numbers 12 to 14, in order, of the range lo .. hi: 14 looks at the first `looked` of the n elements
+abbrev pub checks : ℕ → ℕ → List ℤ → ℕ → ℤ → ℤ → Check (Unit {0})
+checks n looked c s lo hi =
     unless (eqb s 0) 12
     (unless (leb (length c) ((n - 1) * s)) 13
-    (unless-at (first n (λ i. outside (at c (i * s)) lo hi)) 14
+    (unless-at (first looked (λ i. outside (at c (i * s)) lo hi)) 14
     (accept tt)))
 
 -- "A refusal leaves pixels, coefficients and elements unchanged, with mark no."
@@ -73,13 +73,28 @@ abbrev pub outcome-of : List ℤ → Outcome → Check (Unit {0}) → Outcome
 outcome-of c o (accept u) = o
 outcome-of c o (refuse n i) = record { answer = refusal n i; elements = c }
 
--- every pass but the WHT takes its range, which number 11 judges first
+-- a pass that takes its range, which number 11 judges first
+abbrev pub judged : (List ℤ → Passed) → Side → ℕ → List ℤ → ℕ → ℤ → ℤ → Outcome
+judged f n looked c s lo hi = outcome-of c (accepted f n s c) (unless (bad-range lo hi) 11 (checks (len n) looked c s lo hi))
+
+-- every pass but the WHT
 unfoldable pub ranged : Kind → Side → List ℤ → ℕ → ℤ → ℤ → Outcome
-ranged kind n c s lo hi = outcome-of c (accepted kind n (natAbs lo) s c) (unless (bad-range lo hi) 11 (checks (len n) c s lo hi))
+ranged kind n c s lo hi = judged (pass kind n (natAbs lo)) n (len n) c s lo hi
+
+-- E13: "the full pass run with the upper half set to zero"; "14 looking at the lower half only"
+unfoldable pub halved : Side → List ℤ → ℕ → ℤ → ℤ → Outcome
+halved n c s lo hi = judged (λ xs. pass Dct n (natAbs lo) (lower n xs)) n (len n / 2) c s lo hi
 
 -- "WHT passes have no range, so no 11"; 14 "for WHT outside -16777216..16777215"
 unfoldable pub unranged : List ℤ → ℕ → Outcome
-unranged c s = outcome-of c (accepted Wht of4 16777216 s c) (checks 4 c s (low 16777216) (high 16777216))
+unranged c s = outcome-of c (accepted (pass Wht of4 16777216) of4 s c) (checks 4 4 c s (low 16777216) (high 16777216))
+
+-- E13: the list with g's numbers in the upper half of its elements; and an outcome that leaves this list where it is a refusal
+abbrev pub refilled : (ℕ → ℤ) → Side → List ℤ → ℕ → List ℤ
+refilled g n c s = put c s (filled g n (taken c s (len n))) (len n)
+
+abbrev pub leaving : List ℤ → Outcome → Outcome
+leaving c o = record { answer = o .answer; elements = cond (eqb (o .answer .number) 0) (o .elements) c }
 
 -- what a public pass answers and leaves
 pub record Meets (o : Outcome) (r : Pass) (c : List ℤ) : Type 0 where

@@ -3,7 +3,7 @@ use mathlib.Core.Path.{_≡_}
 use mathlib.Core.Bool.{Bool, true, false, not, cond, _&&_, _||_}
 use mathlib.Core.List.{List, [], _∷_, _++_, map}
 use mathlib.Core.Option.{Option, none, some}
-use Prim.Native.Nat.{ℕ, zero, suc, _*_, _-_, _/_, _≤_, _<_}
+use Prim.Native.Nat.{ℕ, zero, suc, _*_, _-_, _/_, _%_, _≤_, _<_}
 use lib.Dec.{T, eqb, leb, ltb}
 use lib.IntN.{ℤ, pos, natAbs}
 use lib.ListN.{getD, length, replicate}
@@ -11,9 +11,10 @@ use Rattle.whole.specs.Numbers.{outside, low, high}
 use Rattle.whole.specs.Lists.{at, tab, first}
 use Rattle.av1.specs.Sides.{Side, of4, of8, of16, of32, len, bits, side}
 use Rattle.dct.specs.Stages.{Through}
-use Rattle.itx_1d.specs.Passes.{Passed, identity, pass}
-use Rattle.itx_1d.specs.Calls.{taken, put}
+use Rattle.itx_1d.specs.Passes.{Passed, identity, pass, lower}
+use Rattle.itx_1d.specs.Calls.{Outcome, taken, put, ranged, halved}
 use Rattle.itx_1d.specs.declared.Kind.{Kind}
+use Rattle.itx_1d.specs.declared.Kind.the-variants.{Dct}
 use Rattle.itx_1d.specs.Manners.{is-wht, is-dct, four-only}
 use Rattle.itx_1d.specs.declared.Found.{Found}
 use Rattle.itx_1d.specs.declared.Found.the-variants.{At, Nothing}
@@ -27,14 +28,24 @@ revs = 0 ∷ 16 ∷ 8 ∷ 24 ∷ 4 ∷ 20 ∷ 12 ∷ 28 ∷ 2 ∷ 18 ∷ 10 ∷ 
 abbrev pub source : ℕ → ℕ → ℕ
 source n i = getD revs (i * (32 / n)) 0
 
--- every source of n elements is below n
+-- every source of n elements is below n, and that of an odd place is in the upper half
 abbrev pub sources-below : ℕ → ℕ → Bool
 sources-below n zero = true
-sources-below n (suc k) = (ltb (k * (32 / n)) 32 && ltb (source n k) n) && sources-below n k
+sources-below n (suc k) =
+    ((ltb (k * (32 / n)) 32 && ltb (source n k) n) && cond (eqb (k % 2) 1) (leb (n / 2) (source n k)) (ltb (source n k) (n / 2))) && sources-below n k
 
--- the elements 0, s, 2s, .. in bit-reversed order, zeros after them
-abbrev pub gathered : List ℤ → ℕ → ℕ → List ℤ
-gathered c s n = tab n (λ i. at c (source n i * s)) ++ replicate (32 - n) (pos 0)
+-- elements in bit-reversed order, zeros after them
+abbrev pub gathered : List ℤ → ℕ → List ℤ
+gathered xs n = tab n (λ i. at xs (source n i)) ++ replicate (32 - n) (pos 0)
+
+-- what is read of n elements, and how many are: all, or with `tx64` the lower half
+abbrev pub read : Bool → Side → List ℤ → List ℤ
+read true n xs = lower n xs
+read false n xs = xs
+
+abbrev pub looked : Bool → ℕ → ℕ
+looked true n = n / 2
+looked false n = n
 
 -- the n elements lie in the list
 pub record Reaches (c : List ℤ) (s n : ℕ) : Type 0 where
@@ -42,9 +53,13 @@ pub record Reaches (c : List ℤ) (s n : ℕ) : Type 0 where
   pub some-stride : 0 < s
   pub inside : (j : ℕ) → j < n → j * s < length c
 
-pub record Passable (c : List ℤ) (s n : ℕ) (most : ℕ) : Type 0 where
+-- and the first of them are small
+pub record Seen (c : List ℤ) (s n looked most : ℕ) : Type 0 where
   pub reaches : Reaches c s n
-  pub small : (j : ℕ) → j < n → natAbs (at c (j * s)) ≤ most
+  pub small : (j : ℕ) → j < looked → natAbs (at c (j * s)) ≤ most
+
+abbrev pub Passable : List ℤ → ℕ → ℕ → ℕ → Type 0
+Passable c s n most = Seen c s n n most
 
 -- the range -m .. m - 1
 pub record Ranged (lo hi : ℤ) : Type 0 where
@@ -56,6 +71,14 @@ pub record Ranged (lo hi : ℤ) : Type 0 where
 pub record PassIs (kind : Kind) (n s m : ℕ) (c d : List ℤ) (r : Bool) : Type 0 where
   pub elements : d ≡ put c s (pass kind (side n) m (taken c s n) .values) n
   pub mark : r ≡ pass kind (side n) m (taken c s n) .mark
+
+-- the same of a DCT that reads all elements, or the lower half
+abbrev pub dct-reading : Bool → Side → ℕ → List ℤ → Passed
+dct-reading tx64 n m xs = pass Dct n m (read tx64 n xs)
+
+pub record DctIs (tx64 : Bool) (n s m : ℕ) (c d : List ℤ) (r : Bool) : Type 0 where
+  pub elements : d ≡ put c s (dct-reading tx64 (side n) m (taken c s n) .values) n
+  pub mark : r ≡ dct-reading tx64 (side n) m (taken c s n) .mark
 
 -- the identity of n points on the list
 abbrev pub identical : List ℤ → ℕ → ℕ → List ℤ
@@ -88,8 +111,8 @@ found Nothing = none
 pub record Open (before : Pass) (c : List ℤ) (n s : ℕ) : Type 0 where
   pub inside : (b : Bool) → before ≡ Done b → (j : ℕ) → j < n → j * s < length c
 
-abbrev pub checked : Pass → List ℤ → ℕ → ℕ → ℤ → ℤ → Pass
-checked before c n s lo hi = after (after before (place-check (eqb s 0) (leb (length c) ((n - 1) * s)))) (element-check (first n (λ i. outside (at c (i * s)) lo hi)))
+abbrev pub checked : Pass → List ℤ → ℕ → ℕ → ℕ → ℤ → ℤ → Pass
+checked before c n looked s lo hi = after (after before (place-check (eqb s 0) (leb (length c) ((n - 1) * s)))) (element-check (first looked (λ i. outside (at c (i * s)) lo hi)))
 
 -- the largest element that a pass takes, the length of one that has no other, and the range of one that clips to it
 abbrev pub most : Kind → ℕ
@@ -106,7 +129,7 @@ pub record Passing (kind : Kind) (c : List ℤ) (n s : ℕ) (lo hi : ℤ) : Type
   pub limited : Limited kind lo hi
   pub able : Passable c s n (most kind)
 
--- a call that takes a range, of a length that its pass has
+-- a call that takes a range, of a length that its pass has; with `tx64` a DCT, of the lower half
 abbrev pub takes-range : Kind → Bool
 takes-range kind = not (is-wht kind)
 
@@ -114,3 +137,7 @@ pub record Callable (kind : Kind) (n : ℕ) : Type 0 where
   pub range : T (takes-range kind)
   pub is-length : len (side n) ≡ n
   pub lined : Lined kind n
+
+abbrev pub called : Bool → Kind → Side → List ℤ → ℕ → ℤ → ℤ → Outcome
+called true kind n = halved n
+called false kind n = ranged kind n

@@ -1,11 +1,12 @@
 -- One-dimensional passes: document 01, "One-dimensional passes", with the mark of request E4; and section 7.13.2 of the AV1 specification by kind.
-use mathlib.Core.Bool.{Bool, true, false}
+use mathlib.Core.Bool.{Bool, true, false, cond}
 use mathlib.Core.List.{List, [], _∷_, map}
-use Prim.Native.Nat.{ℕ}
+use Prim.Native.Nat.{ℕ, _/_}
+use lib.Dec.{ltb}
 use lib.IntN.{ℤ, pos, _+ℤ_, _-ℤ_, _*ℤ_}
 use Rattle.whole.specs.Numbers.{_>>_, round2, low, high}
-use Rattle.whole.specs.Lists.{at}
-use Rattle.av1.specs.Sides.{Side, of4, of8, of16, of32, bits}
+use Rattle.whole.specs.Lists.{at, tab}
+use Rattle.av1.specs.Sides.{Side, of4, of8, of16, of32, len, bits}
 use Rattle.av1.specs.Network.{permuted, steps, run}
 use Rattle.av1.specs.Values.{clipped, hits}
 use Rattle.av1.specs.Passes.{av1-dct, av1-identity, av1-wht, av1-adst}
@@ -49,6 +50,13 @@ pass Identity n m xs = record { values = map (identity n) xs; mark = false }
 pass Wht n m xs = record { values = wht (at xs 0) (at xs 1) (at xs 2) (at xs 3); mark = false }
 pass Adst n m xs = record { values = av1-adst false xs; mark = false }
 pass FlipAdst n m xs = record { values = av1-adst true xs; mark = false }
+
+-- the lower half of n elements with g's in the upper half; and "with the upper half set to zero" (E13)
+abbrev pub filled : (ℕ → ℤ) → Side → List ℤ → List ℤ
+filled g n xs = tab (len n) (λ i. cond (ltb i (len n / 2)) (at xs i) (g i))
+
+abbrev pub lower : Side → List ℤ → List ℤ
+lower n xs = filled (λ i. pos 0) n xs
 
 -- section 7.13.2: no range, no clip
 abbrev pub av1-pass : Kind → Side → List ℤ → List ℤ

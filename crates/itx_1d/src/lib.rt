@@ -81,15 +81,26 @@ pub const REV: [u8; 32] = [
     31,
 ];
 
-// The work array of the DCTs. The crate runs the half in place at double stride; here the even inputs stand first.
-fn gather(t: &mut [i32; 32], c: &[i32], stride: usize, n: usize)
-    requires { ⌜ Inner.Reaches (now c) stride n × (now t ≡ replicate 32 (pos 0)) ⌝ }
-    ensures { λ _. ⌜ now (t .exit) ≡ Inner.gathered (now (c .entry)) stride n ⌝ }
+// Element i of the work array, in bit-reversed order. With `tx64` the odd places, which the upper half of the inputs would have, are zero: it is not read.
+fn element(c: &[i32], stride: usize, n: usize, tx64: bool, i: usize) -> i32
+    requires { ⌜ Inner.Reaches (now c) stride n × (i < n) ⌝ }
+    ensures { λ r. ⌜ r ≡ at (Inner.read tx64 (side n) (Calls.taken (now (c .entry)) stride n)) (Inner.source n i) ⌝ }
 {
+    if tx64 & (i % 2 == 1) {
+        return 0;
+    }
     let m = 32 / n;
+    let j = REV[i * m] as usize;
+    c[j * stride]
+}
+
+// The work array of the DCTs. The crate runs the half in place at double stride; here the even inputs stand first.
+fn gather(t: &mut [i32; 32], c: &[i32], stride: usize, n: usize, tx64: bool)
+    requires { ⌜ Inner.Reaches (now c) stride n × (now t ≡ replicate 32 (pos 0)) ⌝ }
+    ensures { λ _. ⌜ now (t .exit) ≡ Inner.gathered (Inner.read tx64 (side n) (Calls.taken (now (c .entry)) stride n)) n ⌝ }
+{
     for i in 0..n {
-        let j = REV[i * m] as usize;
-        let v = c[j * stride];
+        let v = element(c, stride, n, tx64, i);
         t[i] = v;
     }
 }
@@ -105,25 +116,25 @@ pub fn scatter(c: &mut [i32], stride: usize, n: usize, t: &[i32; 32])
 }
 
 // The DCT of n points on the work array.
-fn dct_of(t: &mut [i32; 32], n: usize, min: i32, max: i32) -> bool
-    requires { ⌜ Stages.Ready (now t) min max ⌝ }
+fn dct_of(t: &mut [i32; 32], n: usize, tx64: bool, min: i32, max: i32) -> bool
+    requires { ⌜ Stages.Ready tx64 (now t) min max ⌝ }
     ensures { λ r. ⌜ Stages.Through (bits (side n) - 1) min max (now (t .entry)) (now (t .exit)) r ⌝ }
 {
     match n {
-        4 => dct4(t, min, max),
-        8 => dct8(t, min, max),
-        16 => dct16(t, min, max),
-        _ => dct32(t, min, max),
+        4 => dct4(t, tx64, min, max),
+        8 => dct8(t, tx64, min, max),
+        16 => dct16(t, tx64, min, max),
+        _ => dct32(t, tx64, min, max),
     }
 }
 
-fn dct(c: &mut [i32], n: usize, stride: usize, min: i32, max: i32) -> bool
-    requires { ⌜ Inner.Passable (now c) stride n 524288 × Inner.Ranged min max ⌝ }
-    ensures { λ r. ⌜ Inner.PassIs Kind.Dct n stride (natAbs min) (now (c .entry)) (now (c .exit)) r ⌝ }
+fn dct(c: &mut [i32], n: usize, stride: usize, tx64: bool, min: i32, max: i32) -> bool
+    requires { ⌜ Inner.Seen (now c) stride n (Inner.looked tx64 n) 524288 × Inner.Ranged min max ⌝ }
+    ensures { λ r. ⌜ Inner.DctIs tx64 n stride (natAbs min) (now (c .entry)) (now (c .exit)) r ⌝ }
 {
     let mut t = [0i32; 32];
-    gather(&mut t, &*c, stride, n);
-    let mark = dct_of(&mut t, n, min, max);
+    gather(&mut t, &*c, stride, n, tx64);
+    let mark = dct_of(&mut t, n, tx64, min, max);
     scatter(&mut *c, stride, n, &t);
     mark
 }
@@ -254,13 +265,21 @@ fn check_elements(before: Pass, c: &[i32], n: usize, stride: usize, min: i32, ma
     }
 }
 
-// Numbers 12 to 14, after `before`.
-fn check(before: Pass, c: &[i32], n: usize, stride: usize, min: i32, max: i32) -> Pass
-    requires { ⌜ len (side n) ≡ n ⌝ }
-    ensures { λ r. ⌜ r ≡ Inner.checked before (now (c .entry)) n stride min max ⌝ }
+// Numbers 12 to 14, after `before`: 14 looks at the first `looked` elements.
+fn check(
+    before: Pass,
+    c: &[i32],
+    n: usize,
+    looked: usize,
+    stride: usize,
+    min: i32,
+    max: i32,
+) -> Pass
+    requires { ⌜ (len (side n) ≡ n) × (looked ≤ n) ⌝ }
+    ensures { λ r. ⌜ r ≡ Inner.checked before (now (c .entry)) n looked stride min max ⌝ }
 {
     let place = check_place(before, c.len(), n, stride);
-    check_elements(place, c, n, stride, min, max)
+    check_elements(place, c, looked, stride, min, max)
 }
 
 // A pass by kind and length, on elements that were checked: `Itx1dFn` and its choice in src/itx.rs.
@@ -269,7 +288,7 @@ pub fn inv_1d(kind: Kind, c: &mut [i32], n: usize, stride: usize, min: i32, max:
     ensures { λ r. ⌜ Inner.PassIs kind n stride (natAbs min) (now (c .entry)) (now (c .exit)) r ⌝ }
 {
     match kind {
-        Kind::Dct => dct(c, n, stride, min, max),
+        Kind::Dct => dct(c, n, stride, false, min, max),
         Kind::Identity => {
             identity(c, n, stride);
             false
@@ -289,83 +308,128 @@ pub fn inv_1d(kind: Kind, c: &mut [i32], n: usize, stride: usize, min: i32, max:
     }
 }
 
-// A pass that takes a range, with its checks.
-fn ranged(kind: Kind, c: &mut [i32], n: usize, stride: usize, min: i32, max: i32) -> Pass
+// How many of n elements are read.
+fn looked(n: usize, tx64: bool) -> usize
+    ensures { λ r. ⌜ r ≡ Inner.looked tx64 n ⌝ }
+{
+    if tx64 { n / 2 } else { n }
+}
+
+// A pass that takes a range, with its checks; with `tx64` a DCT of the lower half of its inputs.
+fn ranged(
+    kind: Kind,
+    tx64: bool,
+    c: &mut [i32],
+    n: usize,
+    stride: usize,
+    min: i32,
+    max: i32,
+) -> Pass
     requires { ⌜ Inner.Callable kind n ⌝ }
-    ensures { λ r. ⌜ Calls.Meets (Calls.ranged kind (side n) (now (c .entry)) stride min max) r (now (c .exit)) ⌝ }
+    ensures { λ r. ⌜ Calls.Meets (Inner.called tx64 kind (side n) (now (c .entry)) stride min max) r (now (c .exit)) ⌝ }
 {
     let range = check_range(min, max);
-    let checked = check(range, &*c, n, stride, min, max);
+    let checked = check(range, &*c, n, looked(n, tx64), stride, min, max);
     let Pass::Done(_) = checked else {
         return checked;
     };
-    Pass::Done(inv_1d(kind, c, n, stride, min, max))
+    if tx64 {
+        let mark = dct(c, n, stride, true, min, max);
+        return Pass::Done(mark);
+    }
+    let mark = inv_1d(kind, c, n, stride, min, max);
+    Pass::Done(mark)
 }
 
 pub fn inv_dct4_1d(c: &mut [i32], stride: usize, min: i32, max: i32) -> Pass
     ensures { λ r. ⌜ Calls.Meets (Calls.ranged Kind.Dct of4 (now (c .entry)) stride min max) r (now (c .exit)) ⌝ }
 {
-    ranged(Kind::Dct, c, 4, stride, min, max)
+    ranged(Kind::Dct, false, c, 4, stride, min, max)
 }
 
 pub fn inv_dct8_1d(c: &mut [i32], stride: usize, min: i32, max: i32) -> Pass
     ensures { λ r. ⌜ Calls.Meets (Calls.ranged Kind.Dct of8 (now (c .entry)) stride min max) r (now (c .exit)) ⌝ }
 {
-    ranged(Kind::Dct, c, 8, stride, min, max)
+    ranged(Kind::Dct, false, c, 8, stride, min, max)
 }
 
 pub fn inv_dct16_1d(c: &mut [i32], stride: usize, min: i32, max: i32) -> Pass
     ensures { λ r. ⌜ Calls.Meets (Calls.ranged Kind.Dct of16 (now (c .entry)) stride min max) r (now (c .exit)) ⌝ }
 {
-    ranged(Kind::Dct, c, 16, stride, min, max)
+    ranged(Kind::Dct, false, c, 16, stride, min, max)
 }
 
 pub fn inv_dct32_1d(c: &mut [i32], stride: usize, min: i32, max: i32) -> Pass
     ensures { λ r. ⌜ Calls.Meets (Calls.ranged Kind.Dct of32 (now (c .entry)) stride min max) r (now (c .exit)) ⌝ }
 {
-    ranged(Kind::Dct, c, 32, stride, min, max)
+    ranged(Kind::Dct, false, c, 32, stride, min, max)
+}
+
+// The crate's `tx64` branches: the upper half of the elements is not read, and all n are written.
+pub fn inv_dct4_half_1d(c: &mut [i32], stride: usize, min: i32, max: i32) -> Pass
+    ensures { λ r. ⌜ Calls.Meets (Calls.halved of4 (now (c .entry)) stride min max) r (now (c .exit)) ⌝ }
+{
+    ranged(Kind::Dct, true, c, 4, stride, min, max)
+}
+
+pub fn inv_dct8_half_1d(c: &mut [i32], stride: usize, min: i32, max: i32) -> Pass
+    ensures { λ r. ⌜ Calls.Meets (Calls.halved of8 (now (c .entry)) stride min max) r (now (c .exit)) ⌝ }
+{
+    ranged(Kind::Dct, true, c, 8, stride, min, max)
+}
+
+pub fn inv_dct16_half_1d(c: &mut [i32], stride: usize, min: i32, max: i32) -> Pass
+    ensures { λ r. ⌜ Calls.Meets (Calls.halved of16 (now (c .entry)) stride min max) r (now (c .exit)) ⌝ }
+{
+    ranged(Kind::Dct, true, c, 16, stride, min, max)
+}
+
+pub fn inv_dct32_half_1d(c: &mut [i32], stride: usize, min: i32, max: i32) -> Pass
+    ensures { λ r. ⌜ Calls.Meets (Calls.halved of32 (now (c .entry)) stride min max) r (now (c .exit)) ⌝ }
+{
+    ranged(Kind::Dct, true, c, 32, stride, min, max)
 }
 
 pub fn inv_identity4_1d(c: &mut [i32], stride: usize, min: i32, max: i32) -> Pass
     ensures { λ r. ⌜ Calls.Meets (Calls.ranged Kind.Identity of4 (now (c .entry)) stride min max) r (now (c .exit)) ⌝ }
 {
-    ranged(Kind::Identity, c, 4, stride, min, max)
+    ranged(Kind::Identity, false, c, 4, stride, min, max)
 }
 
 pub fn inv_identity8_1d(c: &mut [i32], stride: usize, min: i32, max: i32) -> Pass
     ensures { λ r. ⌜ Calls.Meets (Calls.ranged Kind.Identity of8 (now (c .entry)) stride min max) r (now (c .exit)) ⌝ }
 {
-    ranged(Kind::Identity, c, 8, stride, min, max)
+    ranged(Kind::Identity, false, c, 8, stride, min, max)
 }
 
 pub fn inv_identity16_1d(c: &mut [i32], stride: usize, min: i32, max: i32) -> Pass
     ensures { λ r. ⌜ Calls.Meets (Calls.ranged Kind.Identity of16 (now (c .entry)) stride min max) r (now (c .exit)) ⌝ }
 {
-    ranged(Kind::Identity, c, 16, stride, min, max)
+    ranged(Kind::Identity, false, c, 16, stride, min, max)
 }
 
 pub fn inv_identity32_1d(c: &mut [i32], stride: usize, min: i32, max: i32) -> Pass
     ensures { λ r. ⌜ Calls.Meets (Calls.ranged Kind.Identity of32 (now (c .entry)) stride min max) r (now (c .exit)) ⌝ }
 {
-    ranged(Kind::Identity, c, 32, stride, min, max)
+    ranged(Kind::Identity, false, c, 32, stride, min, max)
 }
 
 pub fn inv_adst4_1d(c: &mut [i32], stride: usize, min: i32, max: i32) -> Pass
     ensures { λ r. ⌜ Calls.Meets (Calls.ranged Kind.Adst of4 (now (c .entry)) stride min max) r (now (c .exit)) ⌝ }
 {
-    ranged(Kind::Adst, c, 4, stride, min, max)
+    ranged(Kind::Adst, false, c, 4, stride, min, max)
 }
 
 pub fn inv_flipadst4_1d(c: &mut [i32], stride: usize, min: i32, max: i32) -> Pass
     ensures { λ r. ⌜ Calls.Meets (Calls.ranged Kind.FlipAdst of4 (now (c .entry)) stride min max) r (now (c .exit)) ⌝ }
 {
-    ranged(Kind::FlipAdst, c, 4, stride, min, max)
+    ranged(Kind::FlipAdst, false, c, 4, stride, min, max)
 }
 
 pub fn inv_wht4_1d(c: &mut [i32], stride: usize) -> Pass
     ensures { λ r. ⌜ Calls.Meets (Calls.unranged (now (c .entry)) stride) r (now (c .exit)) ⌝ }
 {
-    let checked = check(Pass::Done(false), &*c, 4, stride, -16777216, 16777215);
+    let checked = check(Pass::Done(false), &*c, 4, 4, stride, -16777216, 16777215);
     let Pass::Done(_) = checked else {
         return checked;
     };

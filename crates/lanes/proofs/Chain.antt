@@ -7,20 +7,19 @@ use native.Mathlib.Nat.{le-trans, le-refl}
 use native.Mathlib.Omega.{arith}
 use lib.Dec.{T}
 use lib.IntN.{ℤ, natAbs}
-use lib.ListN.{replicate}
 use mir.Syntax.{w32}
 use mir.Val.{SFits, toZ, ofZ}
-use mir.ValLaws.{toZ-ofZ}
 use Rattle.av1.specs.Network.{Step, run, step}
 use Rattle.av1.specs.Values.{clipped, hits}
 use Rattle.whole.specs.Lists.{at, tab}
-use Rattle.whole.proofs.Held.{to2}
+use Rattle.whole.proofs.Held.{to2, from2}
 use Rattle.av1.specs.Sides.{Side, of4, of8, of16, of32, len}
 use Rattle.whole.specs.Both.{Both, none, one}
 use Rattle.av1.proofs.Related.{both-tab, run-related}
 use Rattle.dct.specs.Fitting.{Ends, Small, sizes}
 use Rattle.dct.proofs.Fits.{keep-small}
-use Rattle.dct.proofs.Walk.{run-append, hits-append}
+use Rattle.dct.specs.Stages.{reach}
+use Rattle.dct.proofs.Walk.{run-append, hits-append, either}
 use Rattle.lanes.specs.Lanes.{lane, fitting}
 use Rattle.lanes.specs.Stages.{Sweeps, Left, Ready}
 
@@ -30,9 +29,9 @@ both-then : {A C : Type 0} {R : A → C → Type 0} {xs zs : List A} {us vs : Li
 both-then none h = h
 both-then (one r t) h = one r (both-then t h)
 
-small-tab : (n b : ℕ) (f : ℕ → ℤ) → ((i : ℕ) → i < n → natAbs (f i) ≤ b) → Both Small (tab n f) (replicate n b)
+small-tab : (n : ℕ) (b : ℕ → ℕ) (f : ℕ → ℤ) → ((i : ℕ) → i < n → natAbs (f i) ≤ b i) → Both Small (tab n f) (tab n b)
 small-tab zero b f h = none
-small-tab (suc n) b f h = one (h 0 (omega arith)) (small-tab n b (λ i. f (suc i)) (λ i l. h (suc i) (omega arith)))
+small-tab (suc n) b f h = one (h 0 (omega arith)) (small-tab n (λ i. b (suc i)) (λ i. f (suc i)) (λ i l. h (suc i) (omega arith)))
 
 abbrev slot : List ℤ → ℕ → ℕ → ℤ
 slot t l i = at t (i * 32 + l)
@@ -45,37 +44,39 @@ parted of16 t l = refl
 parted of32 t l = refl
 
 -- the bounds of lane l
-abbrev sized : Side → List ℤ → ℕ → List ℕ
-sized k t l = replicate (len k) 524288 ++ tab (32 - len k) (λ i. natAbs (slot t l (len k + i)))
+abbrev sized : Bool → Side → List ℤ → ℕ → List ℕ
+sized h k t l = tab (len k) (reach h) ++ tab (32 - len k) (λ i. natAbs (slot t l (len k + i)))
 
-module _ {lo hi : ℤ} {w : ℕ} {t : List ℤ} (k : Side) (q : Ready (len k) w t lo hi) where
-  inside : (l : ℕ) → l < w → Both Small (lane t l) (sized k t l)
-  inside l h =
-      subst⁻¹ (λ (x : List ℤ). Both Small x (sized k t l)) (parted k t l)
-      (both-then (small-tab (len k) 524288 (slot t l) (λ i g. q .inside i l g h)) (both-tab (32 - len k) (λ i. slot t l (len k + i)) (λ i. natAbs (slot t l (len k + i))) (λ i. le-refl _)))
+module _ {h : Bool} {lo hi : ℤ} {w : ℕ} {t : List ℤ} (k : Side) (q : Ready h (len k) w t lo hi) where
+  inside : (l : ℕ) → l < w → Both Small (lane t l) (sized h k t l)
+  inside l p =
+      subst⁻¹ (λ (x : List ℤ). Both Small x (sized h k t l)) (parted k t l)
+      (both-then (small-tab (len k) (reach h) (slot t l) (λ i g. q .inside i l g p)) (both-tab (32 - len k) (λ i. slot t l (len k + i)) (λ i. natAbs (slot t l (len k + i))) (λ i. le-refl _)))
 
   -- before the first stage
   pub begin : Left [] lo hi w t t w
   begin = record { long = q .long; fewer = omega arith; whole = λ h. refl; elements = λ l h. refl; quiet = λ l h. refl }
 
-  pub ask : {ss : List Step} {u : List ℤ} {r : ℕ} → Left ss lo hi w t u r → (rs : List Step) → ((rest : List ℕ) → T (fitting rs (run sizes ss (replicate (len k) 524288 ++ rest)))) → Sweeps rs r u
-  ask {ss} h rs ok = record {
-    long = h .long;
-    width = omega (arith, h .fewer, q .width);
+  -- the first turns of the inputs go by `tx64`, the others do not: the test is computed for both
+  pub ask : (f : Bool → Bool) {ss : List Step} {u : List ℤ} {r : ℕ} → Left ss lo hi w t u r → (rs : List Step)
+      → ((rest : List ℕ) → T (fitting (f true) rs (run sizes ss (tab (len k) (reach true) ++ rest)))) → ((rest : List ℕ) → T (fitting (f false) rs (run sizes ss (tab (len k) (reach false) ++ rest)))) → Sweeps (f h) rs r u
+  ask f {ss} d rs half full = record {
+    long = d .long;
+    width = omega (arith, d .fewer, q .width);
     able = λ l p. record {
-      β = run sizes ss (sized k t l);
-      inside = subst⁻¹ (λ (x : List ℤ). Both Small x (run sizes ss (sized k t l))) (h .elements l p) (run-related (keep-small (q .ends)) ss (inside l (le-trans p (h .fewer))));
-      ok = ok _;
+      β = run sizes ss (sized h k t l);
+      inside = subst⁻¹ (λ (x : List ℤ). Both Small x (run sizes ss (sized h k t l))) (d .elements l p) (run-related (keep-small (q .ends)) ss (inside l (le-trans p (d .fewer))));
+      ok = either (λ b. (rest : List ℕ) → T (fitting (f b) rs (run sizes ss (tab (len k) (reach b) ++ rest)))) half full h _;
     };
   }
 
 -- the half asks less
-pub half-ready : {n m w : ℕ} {t : List ℤ} {lo hi : ℤ} → n ≤ m → SFits w32 lo → SFits w32 hi → Ready m w t lo hi → Ready n w t (toZ w32 (ofZ w32 lo)) (toZ w32 (ofZ w32 hi))
+pub half-ready : {b : Bool} {n m w : ℕ} {t : List ℤ} {lo hi : ℤ} → n ≤ m → SFits w32 lo → SFits w32 hi → Ready b m w t lo hi → Ready b n w t (toZ w32 (ofZ w32 lo)) (toZ w32 (ofZ w32 hi))
 half-ready h f g q = record { long = q .long; width = q .width; inside = λ i l p. q .inside i l (le-trans p h); ends = to2 Ends f g (q .ends) }
 
 -- a callee's ends are read back
 pub held : {ss : List Step} {lo hi : ℤ} {w r : ℕ} {t u : List ℤ} → SFits w32 lo → SFits w32 hi → Left ss (toZ w32 (ofZ w32 lo)) (toZ w32 (ofZ w32 hi)) w t u r → Left ss lo hi w t u r
-held {ss} {lo} {hi} {w} {r} {t} {u} f g h = subst (λ (z : ℤ). Left ss z hi w t u r) (toZ-ofZ w32 lo f) (subst (λ (z : ℤ). Left ss (toZ w32 (ofZ w32 lo)) z w t u r) (toZ-ofZ w32 hi g) h)
+held {ss} {w = w} {r} {t} {u} f g h = from2 (λ lo hi. Left ss lo hi w t u r) f g h
 
 pub chain : (ss rs : List Step) {lo hi : ℤ} {w r n : ℕ} {t u v : List ℤ} → SFits w32 lo → SFits w32 hi → Left ss lo hi w t u r → Left rs (toZ w32 (ofZ w32 lo)) (toZ w32 (ofZ w32 hi)) r u v n → Left (ss ++ rs) lo hi w t v n
 chain ss rs {lo} {hi} {t = t} f g h k₀ =

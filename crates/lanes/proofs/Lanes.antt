@@ -12,6 +12,9 @@ use lib.ListN.{length, set, length-set}
 use lib.Seq.{getD-set-same, getD-set-other, ext-getD}
 use Rattle.whole.specs.Lists.{at, tab}
 use Rattle.whole.proofs.Counts.{tab-at, tab-length, tab-ext}
+use Rattle.av1.specs.Network.{B, step}
+use Rattle.av1.specs.Values.{exact, turnX, turnY}
+use Rattle.dct.specs.Stages as Steps
 use Rattle.lanes.specs.Lanes.{lane, OnLane, Paired}
 
 pub lane-at : (t : List ℤ) (l i : ℕ) → i < 32 → at (lane t l) i ≡ at t (i * 32 + l)
@@ -56,3 +59,16 @@ module _ (t : List ℤ) (l a b : ℕ) (f : List ℤ → List ℤ) {most : ℕ} (
         own = ap (λ (z : List ℤ). lane z l) is ∙ lane-own first long l b (rows .l-in) (rows .b-in) v ∙ ap (λ (L : List ℤ). set L b v) (lane-own t (rows .long) l a (rows .l-in) (rows .a-in) u) ∙ e;
         others = λ k h d. ap (λ (z : List ℤ). lane z k) is ∙ lane-other first long l b (rows .l-in) (rows .b-in) v k h d ∙ lane-other t (rows .long) l a (rows .l-in) (rows .a-in) u k h d;
       }
+
+-- the two numbers of a turn of elements a and b, stored
+module _ (t : List ℤ) (l a b : ℕ) (c s : ℤ) {most : ℕ} (rows : Paired t l a b most) where
+  abbrev pub element : ℕ → ℤ
+  element i = at t (i * 32 + l)
+
+  in-lane : (f : ℤ → ℤ → ℤ) → f (element a) (element b) ≡ f (at (lane t l) a) (at (lane t l) b)
+  in-lane f = λ i. f (sym (lane-at t l a (rows .a-in)) i) (sym (lane-at t l b (rows .b-in)) i)
+
+  pub turned-on : (flip : Bool) (u v : ℤ) {w : List ℤ} → w ≡ Steps.stored (a * 32 + l) (b * 32 + l) flip u v t → u ≡ turnX c s (element a) (element b) → v ≡ turnY c s (element a) (element b)
+      → OnLane l (step exact (B a b c s flip)) t w
+  turned-on true u v is p q = stored t l a b (step exact (B a b c s true)) rows v u is (λ i. set (set (lane t l) a ((q ∙ in-lane (turnY c s)) i)) b ((p ∙ in-lane (turnX c s)) i))
+  turned-on false u v is p q = stored t l a b (step exact (B a b c s false)) rows u v is (λ i. set (set (lane t l) a ((p ∙ in-lane (turnX c s)) i)) b ((q ∙ in-lane (turnY c s)) i))

@@ -25,51 +25,89 @@ use Rattle.dct.specs.Stages.{turns, joins, small}
 use Rattle.dct.proofs.Fits as Bounds
 use Rattle.dct.proofs.Walk.{run-append, are-turns, read-back}
 use Rattle.lanes.specs.Lanes.{lane, OnLane, far, growth, fits, fitting, Able}
-use Rattle.lanes.specs.Stages.{Turning, Mixing, Mixed, Sweeps, Left, Ready}
+use Rattle.lanes.specs.Stages.{Turning, Mixing, Mixed, Staging, staged, Sweeps, Left, Ready}
 use Rattle.lanes.proofs.Fits.{able-now, able-next}
 
 -- ---- steps in a row
 
-able-first : (xs ys : List Step) {L : List ℤ} → Able (xs ++ ys) L → Able xs L
-able-first xs ys w = record { β = w .β; inside = w .inside; ok = go xs (w .β) (w .ok) }
-  where
-    go : (zs : List Step) (β : List ℕ) → T (fitting (zs ++ ys) β) → T (fitting zs β)
-    go [] β k = tt
-    go (z ∷ zs) β k = let p = and-yes (fits z β) (fitting (zs ++ ys) (step growth z β)) k in both (fits z β) _ (p .0) (go zs (step growth z β) (p .1))
-      where
-        both : (a b : Bool) → T a → T b → T (a && b)
-        both true b h g = g
-        both false b h g = absurd h
+both : (a b : Bool) → T a → T b → T (a && b)
+both true b h g = g
+both false b h g = absurd h
 
-able-after : (xs ys : List Step) {L : List ℤ} → Able (xs ++ ys) L → Able ys (run exact xs L)
+able-first : {h : Bool} (xs ys : List Step) {L : List ℤ} → Able h (xs ++ ys) L → Able h xs L
+able-first {h} xs ys w = record { β = w .β; inside = w .inside; ok = go xs (w .β) (w .ok) }
+  where
+    go : (zs : List Step) (β : List ℕ) → T (fitting h (zs ++ ys) β) → T (fitting h zs β)
+    go [] β k = tt
+    go (z ∷ zs) β k = let p = and-yes (fits h z β) (fitting h (zs ++ ys) (step growth z β)) k in both (fits h z β) _ (p .0) (go zs (step growth z β) (p .1))
+
+able-after : {h : Bool} (xs ys : List Step) {L : List ℤ} → Able h (xs ++ ys) L → Able h ys (run exact xs L)
 able-after [] ys w = w
 able-after (x ∷ xs) ys w = able-after xs ys (able-next w)
 
--- lane k of u after the steps ds, with rest still to come
-record Midway (ds rest : List Step) (k : ℕ) (u v : List ℤ) : Type 0 where
-  on : OnLane k (run exact ds) u v
-  pub long : length v ≡ 1024
-  k-in : k < 32
-  pub able : Able rest (lane v k)
+-- a butterfly asks the same either way
+able-joins : {h : Bool} (ps : List ℕ) {L : List ℤ} → Able h (joins ps) L → Able false (joins ps) L
+able-joins {h} ps w = record { β = w .β; inside = w .inside; ok = go ps (w .β) (w .ok) }
+  where
+    go : (qs : List ℕ) (β : List ℕ) → T (fitting h (joins qs) β) → T (fitting false (joins qs) β)
+    go [] β k = tt
+    go (a ∷ []) β k = tt
+    go (a ∷ b ∷ qs) β k = let p = and-yes (fits h (H a b) β) (fitting h (joins qs) (step growth (H a b) β)) k in both (fits h (H a b) β) _ (p .0) (go qs (step growth (H a b) β) (p .1))
 
-module _ {ds : List Step} {k : ℕ} {u v : List ℤ} where
-  ask-turns : {flip : Bool} {ps : List ℕ} {cs : List ℤ} (ys : List Step) → Midway ds (turns flip ps cs ++ ys) k u v → length ps ≡ length cs → Turning flip ps cs v k
-  ask-turns {flip} {ps} {cs} ys m e = record { long = m .long; l-in = m .k-in; even = e; able = able-first (turns flip ps cs) ys (m .able) }
+then-on : {l : ℕ} {t u v : List ℤ} (xs ys : List Step) → OnLane l (run exact xs) t u → OnLane l (run exact ys) u v → OnLane l (run exact (xs ++ ys)) t v
+then-on {l} {t} xs ys o p = record {
+  long = p .long ∙ o .long;
+  own = p .own ∙ ap (run exact ys) (o .own) ∙ sym (run-append exact xs ys (lane t l));
+  others = λ j h d. p .others j h d ∙ o .others j h d;
+}
 
-  ask-mixes : {ps : List ℕ} → Midway ds (joins ps) k u v → Mixing ps v k
-  ask-mixes m = record { long = m .long; l-in = m .k-in; able = m .able }
+-- ---- a stage of one lane: its two runs of turns and its butterflies
 
-  further : (xs ys : List Step) {v′ : List ℤ} → Midway ds (xs ++ ys) k u v → OnLane k (run exact xs) v v′ → Midway (ds ++ xs) ys k u v′
-  further xs ys m o = record {
-    on = record {
-      long = o .long ∙ m .on .long;
-      own = o .own ∙ ap (run exact xs) (m .on .own) ∙ sym (run-append exact ds xs (lane u k));
-      others = λ j h d. o .others j h d ∙ m .on .others j h d;
-    };
-    long = o .long ∙ m .long;
-    k-in = m .k-in;
-    able = subst⁻¹ (Able ys) (o .own) (able-after xs ys (m .able));
-  }
+-- turns leave nothing outside
+near-turns : (lo hi : ℤ) (flip : Bool) (ps : List ℕ) (cs : List ℤ) (rs : List Step) (L : List ℤ) → far lo hi (turns flip ps cs ++ rs) L ≡ far lo hi rs (run exact (turns flip ps cs) L)
+near-turns lo hi flip [] cs rs L = refl
+near-turns lo hi flip (a ∷ []) cs rs L = refl
+near-turns lo hi flip (a ∷ b ∷ ps) [] rs L = refl
+near-turns lo hi flip (a ∷ b ∷ ps) (c ∷ []) rs L = refl
+near-turns lo hi flip (a ∷ b ∷ ps) (c ∷ s ∷ cs) rs L = near-turns lo hi flip ps cs rs (step exact (B a b c s flip) L)
+
+module _ {h : Bool} {ps : List ℕ} {cs : List ℤ} {qs : List ℕ} {ds : List ℤ} {js : List ℕ} {t : List ℤ} {l : ℕ} (q : Staging h ps cs qs ds js t l) where
+  abbrev xs : List Step
+  xs = turns true ps cs
+
+  abbrev ys : List Step
+  ys = turns false qs ds
+
+  pub asks-first : Turning h true ps cs t l
+  asks-first = record { long = q .long; l-in = q .l-in; even = q .even; able = able-first xs ys (able-first (xs ++ ys) (joins js) (q .able)) }
+
+  module _ {v : List ℤ} (one : OnLane l (run exact xs) t v) where
+    pub asks-second : Turning h false qs ds v l
+    asks-second = record {
+      long = one .long ∙ q .long;
+      l-in = q .l-in;
+      even = q .more-even;
+      able = subst⁻¹ (Able h ys) (one .own) (able-after xs ys (able-first (xs ++ ys) (joins js) (q .able)));
+    }
+
+    module _ {w : List ℤ} (two : OnLane l (run exact ys) v w) where
+      abbrev both-on : OnLane l (run exact (xs ++ ys)) t w
+      both-on = then-on xs ys one two
+
+      pub asks-third : Mixing js w l
+      asks-third = record {
+        long = both-on .long ∙ q .long;
+        l-in = q .l-in;
+        able = able-joins js (subst⁻¹ (Able h (joins js)) (both-on .own) (able-after (xs ++ ys) (joins js) (q .able)));
+      }
+
+      pub lane-staged : {lo hi : ℤ} {z : List ℤ} {m : Bool} → Mixed (joins js) lo hi l w z m → Mixed (staged ps cs qs ds js) lo hi l t z m
+      lane-staged {lo} {hi} o = record {
+        elements = then-on (xs ++ ys) (joins js) both-on (o .elements);
+        seen =
+            o .seen ∙ ap (far lo hi (joins js)) (two .own ∙ ap (run exact ys) (one .own)) ∙ sym (near-turns lo hi false qs ds (joins js) (run exact xs (lane t l)))
+            ∙ sym (near-turns lo hi true ps cs (ys ++ joins js) (lane t l)) ∙ ap (λ (ss : List Step). far lo hi ss (lane t l)) (sym (append-assoc xs ys (joins js)));
+      }
 
 -- ---- the first k lanes are done
 pub record Swept (ss : List Step) (lo hi : ℤ) (t : List ℤ) (k : ℕ) (u : List ℤ) (r : Bool) : Type 0 where
@@ -78,30 +116,29 @@ pub record Swept (ss : List Step) (lo hi : ℤ) (t : List ℤ) (k : ℕ) (u : Li
   pub left : (l : ℕ) → k ≤ l → l < 32 → lane u l ≡ lane t l
   pub seen : r ≡ any k (λ l. far lo hi ss (lane t l))
 
-module _ {ss : List Step} {lo hi : ℤ} {w : ℕ} {t : List ℤ} (q : Sweeps ss w t) where
+module _ {h : Bool} {ss : List Step} {lo hi : ℤ} {w : ℕ} {t : List ℤ} (q : Sweeps h ss w t) where
   pub swept-none : Swept ss lo hi t 0 t false
   swept-none = record { long = q .long; done = λ l h. (let x : ⊥ = omega arith in absurd x); left = λ l h g. refl; seen = refl }
 
-  module _ {k : ℕ} {u : List ℤ} {r : Bool} (h : Swept ss lo hi t k u r) (more : k < w) where
-    midway : Midway [] ss k u u
-    midway =
-        let k-in : k < 32 = omega (arith, q .width) in
-        record {
-          on = record { long = refl; own = refl; others = λ j e d. refl };
-          long = h .long;
-          k-in = k-in;
-          able = subst⁻¹ (Able ss) (h .left k (omega arith) k-in) (q .able k more);
-        }
+  -- the lane that a stage's loop has come to: what the stage asks of it; and the lane after it
+  module _ {k : ℕ} {u : List ℤ} {r : Bool} (d : Swept ss lo hi t k u r) (more : k < w) where
+    k-in : k < 32
+    k-in = omega (arith, q .width)
 
-    swept-more : {v : List ℤ} {m : Bool} → OnLane k (run exact ss) u v → m ≡ far lo hi ss (lane u k) → Swept ss lo hi t (k + 1) v (r || m)
-    swept-more {v} {m} o e =
-        let same = h .left k (omega arith) (omega (arith, q .width)) in
+    same : lane u k ≡ lane t k
+    same = d .left k (omega arith) k-in
+
+    pub asks : {ps : List ℕ} {cs : List ℤ} {qs : List ℕ} {ds : List ℤ} {js : List ℕ} → staged ps cs qs ds js ≡ ss → length ps ≡ length cs → length qs ≡ length ds → Staging h ps cs qs ds js u k
+    asks e p o = record { long = d .long; l-in = k-in; even = p; more-even = o; able = subst⁻¹ (λ (rs : List Step). Able h rs (lane u k)) e (subst⁻¹ (Able h ss) same (q .able k more)) }
+
+    pub lane-done : {v : List ℤ} {m : Bool} → Mixed ss lo hi k u v m → Swept ss lo hi t (k + 1) v (r || m)
+    lane-done {v} o =
         let one = sym (add-one k) in
         record {
-          long = o .long ∙ h .long;
-          done = λ l g. last-or-less l k (λ (i : ℕ). lane v i ≡ run exact ss (lane t i)) (omega arith) (o .own ∙ ap (run exact ss) same) (λ p. o .others l (omega (arith, q .width)) (λ z. omega arith) ∙ h .done l p);
-          left = λ l p g. o .others l g (λ z. omega arith) ∙ h .left l (omega arith) g;
-          seen = (λ i. h .seen i || (e ∙ ap (far lo hi ss) same) i) ∙ sym (any-snoc k (λ l. far lo hi ss (lane t l))) ∙ ap (λ (n : ℕ). any n (λ l. far lo hi ss (lane t l))) one;
+          long = o .elements .long ∙ d .long;
+          done = λ l g. last-or-less l k (λ (i : ℕ). lane v i ≡ run exact ss (lane t i)) (omega arith) (o .elements .own ∙ ap (run exact ss) same) (λ p. o .elements .others l (omega (arith, q .width)) (λ z. omega arith) ∙ d .done l p);
+          left = λ l p g. o .elements .others l g (λ z. omega arith) ∙ d .left l (omega arith) g;
+          seen = (λ i. d .seen i || (o .seen ∙ ap (far lo hi ss) same) i) ∙ sym (any-snoc k (λ l. far lo hi ss (lane t l))) ∙ ap (λ (n : ℕ). any n (λ l. far lo hi ss (lane t l))) one;
         }
 
 -- ---- where nothing lies outside, a clip changes nothing
@@ -139,42 +176,3 @@ settled {ss} {lo} {hi} {w} {k} {n} {t} {u} {r} f g h all e = go r (h .seen ∙ (
           elements = λ l q. h .done l (omega arith) ∙ near lo hi ss (lane t l) (quiet l q) .0;
           quiet = λ l q. near lo hi ss (lane t l) (quiet l q) .1;
         }
-
--- one lane more, by its turns and then its butterflies
-near-turns : (lo hi : ℤ) (ds js : List Step) (L : List ℤ) → T (are-turns ds) → far lo hi (ds ++ js) L ≡ far lo hi js (run exact ds L)
-near-turns lo hi [] js L e = refl
-near-turns lo hi (B a b c s flip ∷ ds) js L e = near-turns lo hi ds js (step exact (B a b c s flip) L) e
-near-turns lo hi (H a b ∷ ds) js L e = absurd e
-
-swept-mixed : (ds js : List Step) {lo hi : ℤ} {w k : ℕ} {t u v v′ : List ℤ} {r m : Bool} → T (are-turns ds) → Sweeps (ds ++ js) w t → Swept (ds ++ js) lo hi t k u r → k < w
-    → Midway ds js k u v → Mixed js lo hi k v v′ m → Swept (ds ++ js) lo hi t (k + 1) v′ (r || m)
-swept-mixed ds js {lo} {hi} {k = k} {u = u} a q h more w o =
-    swept-more q h more
-    (record {
-      long = o .elements .long ∙ w .on .long;
-      own = o .elements .own ∙ ap (run exact js) (w .on .own) ∙ sym (run-append exact ds js (lane u k));
-      others = λ j p d. o .elements .others j p d ∙ w .on .others j p d;
-    })
-    (o .seen ∙ ap (far lo hi js) (w .on .own) ∙ sym (near-turns lo hi ds js (lane u k) a))
-
--- the lane that a stage's loop has come to: what its two runs of turns xs and ys, and its butterflies zs, ask; and the lane after them
-module _ (xs ys zs : List Step) {lo hi : ℤ} {w k : ℕ} {t u : List ℤ} {r : Bool} (q : Sweeps ((xs ++ ys) ++ zs) w t) (h : Swept ((xs ++ ys) ++ zs) lo hi t k u r) (more : k < w) where
-  first : Midway [] (xs ++ (ys ++ zs)) k u u
-  first = subst (λ (ss : List Step). Midway [] ss k u u) (append-assoc xs ys zs) (midway q h more)
-
-  pub asks-first : {flip : Bool} {ps : List ℕ} {cs : List ℤ} → turns flip ps cs ≡ xs → length ps ≡ length cs → Turning flip ps cs u k
-  asks-first e l = ask-turns (ys ++ zs) (subst⁻¹ (λ (ss : List Step). Midway [] (ss ++ (ys ++ zs)) k u u) e first) l
-
-  module _ {v : List ℤ} (one : OnLane k (run exact xs) u v) where
-    pub asks-second : {flip : Bool} {ps : List ℕ} {cs : List ℤ} → turns flip ps cs ≡ ys → length ps ≡ length cs → Turning flip ps cs v k
-    asks-second e l = ask-turns zs (subst⁻¹ (λ (ss : List Step). Midway xs (ss ++ zs) k u v) e (further xs (ys ++ zs) first one)) l
-
-    module _ {v′ : List ℤ} (two : OnLane k (run exact ys) v v′) where
-      third : Midway (xs ++ ys) zs k u v′
-      third = further ys zs (further xs (ys ++ zs) first one) two
-
-      pub asks-third : {ps : List ℕ} → joins ps ≡ zs → Mixing ps v′ k
-      asks-third e = ask-mixes (subst⁻¹ (λ (ss : List Step). Midway (xs ++ ys) ss k u v′) e third)
-
-      pub lane-done : {v″ : List ℤ} {m : Bool} → T (are-turns (xs ++ ys)) → Mixed zs lo hi k v′ v″ m → Swept ((xs ++ ys) ++ zs) lo hi t (k + 1) v″ (r || m)
-      lane-done a o = swept-mixed (xs ++ ys) zs a q h more third o

@@ -1,9 +1,9 @@
 -- A block whose rows stand 32 places apart: its columns are the lanes, and a lane holds the elements of one line.
 use mathlib.Core.Path.{_≡_}
-use mathlib.Core.Bool.{Bool, true, false, _&&_, _||_}
+use mathlib.Core.Bool.{Bool, true, false, not, _&&_, _||_}
 use mathlib.Core.List.{List, [], _∷_}
 use mathlib.Core.Logic.{_≢_}
-use Prim.Native.Nat.{ℕ, suc, _+_, _*_, _/_, _≤_, _<_}
+use Prim.Native.Nat.{ℕ, suc, _+_, _*_, _/_, _%_, _≤_, _<_}
 use lib.Dec.{T, leb, ltb}
 use lib.IntN.{ℤ, pos, natAbs, _-ℤ_}
 use lib.ListN.{getD, length}
@@ -12,7 +12,7 @@ use Rattle.intops.specs.Asked.{reduced, Slight}
 use Rattle.av1.specs.Network.{Alg, Step, B, H, step}
 use Rattle.av1.specs.Values.{exact, hit}
 use Rattle.whole.specs.Both.{Both}
-use Rattle.dct.specs.Fitting.{Small}
+use Rattle.dct.specs.Fitting.{Small, lonely}
 
 unfoldable pub lane : List ℤ → ℕ → List ℤ
 lane t l = tab 32 (λ i. at t (i * 32 + l))
@@ -42,19 +42,22 @@ slight p = leb (natAbs p) 4096 && leb (natAbs (reduced p)) 2047
 abbrev pub two-rows : ℕ → ℕ → List ℕ → ℕ → Bool
 two-rows a b β most = (ltb a 32 && ltb b 32) && (leb (getD β a 0) most && leb (getD β b 0) most)
 
-abbrev pub fits : Step → List ℕ → Bool
-fits (B a b c s flip) β = two-rows a b β 524288 && (slight c && (slight s && slight (pos 0 -ℤ s)))
-fits (H a b) β = two-rows a b β 1073741823
+abbrev pub turning : ℕ → ℕ → ℤ → ℤ → List ℕ → Bool
+turning a b c s β = two-rows a b β 524288 && (slight c && (slight s && slight (pos 0 -ℤ s)))
 
-abbrev pub fitting : List Step → List ℕ → Bool
-fitting [] β = true
-fitting (s ∷ ss) β = fits s β && fitting ss (step growth s β)
+abbrev pub fits : Bool → Step → List ℕ → Bool
+fits tx64 (B a b c s flip) β = turning a b c s β && (not tx64 || lonely a b c s β)
+fits tx64 (H a b) β = two-rows a b β 1073741823
 
--- a lane is such that the steps can be run
-pub record Able (ss : List Step) (L : List ℤ) : Type 0 where
+abbrev pub fitting : Bool → List Step → List ℕ → Bool
+fitting tx64 [] β = true
+fitting tx64 (s ∷ ss) β = fits tx64 s β && fitting tx64 ss (step growth s β)
+
+-- a lane is such that the steps can be run, with `tx64` by turns of one element alone
+pub record Able (tx64 : Bool) (ss : List Step) (L : List ℤ) : Type 0 where
   pub β : List ℕ
   pub inside : Both Small L β
-  pub ok : T (fitting ss β)
+  pub ok : T (fitting tx64 ss β)
 
 -- what a step asks of two elements of lane l
 pub record Paired (t : List ℤ) (l a b most : ℕ) : Type 0 where
@@ -65,8 +68,17 @@ pub record Paired (t : List ℤ) (l a b most : ℕ) : Type 0 where
   pub x-small : natAbs (at t (a * 32 + l)) ≤ most
   pub y-small : natAbs (at t (b * 32 + l)) ≤ most
 
-pub record Turnable (t : List ℤ) (l a b : ℕ) (c s : ℤ) : Type 0 where
+-- a turn whose element at the odd place is zero
+pub record Lonely (t : List ℤ) (l a b : ℕ) (c s : ℤ) : Type 0 where
+  pub rows : Paired t l a b 524288
+  pub cos-small : natAbs c ≤ 4095
+  pub sin-small : natAbs s ≤ 4095
+  pub first : a % 2 ≡ 0 → at t (b * 32 + l) ≡ pos 0
+  pub second : a % 2 ≢ 0 → at t (a * 32 + l) ≡ pos 0
+
+pub record Turnable (tx64 : Bool) (t : List ℤ) (l a b : ℕ) (c s : ℤ) : Type 0 where
   pub rows : Paired t l a b 524288
   pub cos-slight : Slight c
   pub sin-slight : Slight s
   pub less-slight : Slight (pos 0 -ℤ s)
+  pub alone : tx64 ≡ true → Lonely t l a b c s

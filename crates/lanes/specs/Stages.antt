@@ -10,7 +10,7 @@ use Rattle.av1.specs.Network.{Step, H, run, step}
 use Rattle.av1.specs.Values.{exact, clipped, hit, hits}
 use Rattle.dct.specs.Halves.{before, last}
 use Rattle.dct.specs.Fitting.{Ends}
-use Rattle.dct.specs.Stages.{turns, joins}
+use Rattle.dct.specs.Stages.{turns, joins, reach}
 use Rattle.lanes.specs.Lanes.{lane, OnLane, far, Able}
 
 -- steps i to before j of the DCT of 32 points by halves, which begins with those of 4, 8 and 16 points
@@ -18,27 +18,38 @@ abbrev pub cut : ℕ → ℕ → List Step
 cut i j = take (j - i) (drop i (before 4 ++ last 4))
 
 -- what the two loops over a table ask of lane l
-pub record Turning (flip : Bool) (ps : List ℕ) (cs : List ℤ) (t : List ℤ) (l : ℕ) : Type 0 where
+pub record Turning (tx64 flip : Bool) (ps : List ℕ) (cs : List ℤ) (t : List ℤ) (l : ℕ) : Type 0 where
   pub long : length t ≡ 1024
   pub l-in : l < 32
   pub even : length ps ≡ length cs
-  pub able : Able (turns flip ps cs) (lane t l)
+  pub able : Able tx64 (turns flip ps cs) (lane t l)
 
 pub record Mixing (ps : List ℕ) (t : List ℤ) (l : ℕ) : Type 0 where
   pub long : length t ≡ 1024
   pub l-in : l < 32
-  pub able : Able (joins ps) (lane t l)
+  pub able : Able false (joins ps) (lane t l)
 
 -- sums and differences on lane l, and whether one lies outside
 pub record Mixed (ss : List Step) (lo hi : ℤ) (l : ℕ) (t u : List ℤ) (r : Bool) : Type 0 where
   pub elements : OnLane l (run exact ss) t u
   pub seen : r ≡ far lo hi ss (lane t l)
 
+-- a stage: turns whose results are exchanged, turns, and butterflies; what it asks of lane l
+abbrev pub staged : List ℕ → List ℤ → List ℕ → List ℤ → List ℕ → List Step
+staged ps cs qs ds js = (turns true ps cs ++ turns false qs ds) ++ joins js
+
+pub record Staging (tx64 : Bool) (ps : List ℕ) (cs : List ℤ) (qs : List ℕ) (ds : List ℤ) (js : List ℕ) (t : List ℤ) (l : ℕ) : Type 0 where
+  pub long : length t ≡ 1024
+  pub l-in : l < 32
+  pub even : length ps ≡ length cs
+  pub more-even : length qs ≡ length ds
+  pub able : Able tx64 (staged ps cs qs ds js) (lane t l)
+
 -- a stage on w lanes: what it asks, and how many lanes it leaves: all, or none where a clip would have acted
-pub record Sweeps (ss : List Step) (w : ℕ) (t : List ℤ) : Type 0 where
+pub record Sweeps (tx64 : Bool) (ss : List Step) (w : ℕ) (t : List ℤ) : Type 0 where
   pub long : length t ≡ 1024
   pub width : w ≤ 32
-  pub able : (l : ℕ) → l < w → Able ss (lane t l)
+  pub able : (l : ℕ) → l < w → Able tx64 ss (lane t l)
 
 pub record Left (ss : List Step) (lo hi : ℤ) (w : ℕ) (t u : List ℤ) (r : ℕ) : Type 0 where
   pub long : length u ≡ 1024
@@ -47,9 +58,9 @@ pub record Left (ss : List Step) (lo hi : ℤ) (w : ℕ) (t u : List ℤ) (r : �
   pub elements : (l : ℕ) → l < r → lane u l ≡ run (clipped lo hi) ss (lane t l)
   pub quiet : (l : ℕ) → l < r → hits lo hi ss (lane t l) ≡ false
 
--- a DCT of n points on w lanes: what it asks of the first n rows
-pub record Ready (n w : ℕ) (t : List ℤ) (lo hi : ℤ) : Type 0 where
+-- a DCT of n points on w lanes: what it asks of the first n rows; where the upper half of the inputs is zero (`tx64`), the odd rows are
+pub record Ready (tx64 : Bool) (n w : ℕ) (t : List ℤ) (lo hi : ℤ) : Type 0 where
   pub long : length t ≡ 1024
   pub width : w ≤ 32
-  pub inside : (i l : ℕ) → i < n → l < w → natAbs (at t (i * 32 + l)) ≤ 524288
+  pub inside : (i l : ℕ) → i < n → l < w → natAbs (at t (i * 32 + l)) ≤ reach tx64 i
   pub ends : Ends lo hi

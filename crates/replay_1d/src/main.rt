@@ -24,6 +24,16 @@ fn run_dct(c: &mut [i32], n: u32, stride: usize, min: i32, max: i32) -> Ran {
     }
 }
 
+fn run_half(c: &mut [i32], n: u32, stride: usize, min: i32, max: i32) -> Ran {
+    match n {
+        4 => Ran::Answer(sgrifomel::sgrifomel_inv_dct4_half_1d(c, stride, min, max)),
+        8 => Ran::Answer(sgrifomel::sgrifomel_inv_dct8_half_1d(c, stride, min, max)),
+        16 => Ran::Answer(sgrifomel::sgrifomel_inv_dct16_half_1d(c, stride, min, max)),
+        32 => Ran::Answer(sgrifomel::sgrifomel_inv_dct32_half_1d(c, stride, min, max)),
+        _ => Ran::NoPass,
+    }
+}
+
 fn run_identity(c: &mut [i32], n: u32, stride: usize, min: i32, max: i32) -> Ran {
     match n {
         4 => Ran::Answer(sgrifomel::sgrifomel_inv_identity4_1d(c, stride, min, max)),
@@ -56,6 +66,7 @@ fn run(kind: u32, c: &mut [i32], n: u32, stride: usize, min: i32, max: i32) -> R
             4 => Ran::Answer(sgrifomel::sgrifomel_inv_wht4_1d(c, stride)),
             _ => Ran::NoPass,
         },
+        3 => run_half(c, n, stride, min, max),
         4 => run_adst(c, n, stride, min, max),
         5 => run_flipadst(c, n, stride, min, max),
         _ => Ran::NoPass,

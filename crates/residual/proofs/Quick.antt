@@ -1,10 +1,10 @@
 -- A DCT on the lanes of a block is document 01's pass on each of its lines.
 use mathlib.Core.Path.{_≡_, refl, sym, ap, _∙_, subst, subst⁻¹}
-use mathlib.Core.Bool.{Bool, true, false}
+use mathlib.Core.Bool.{Bool, true, false, cond, _&&_}
 use mathlib.Core.List.{List, _++_}
-use Prim.Native.Nat.{ℕ, _+_, _*_, _-_, _≤_, _<_}
+use Prim.Native.Nat.{ℕ, _+_, _*_, _-_, _/_, _%_, _≤_, _<_}
 use native.Mathlib.Omega.{arith}
-use lib.Dec.{T}
+use lib.Dec.{T, eqb}
 use lib.IntN.{ℤ, pos, natAbs}
 use lib.ListN.{length, replicate, List·getD-append}
 use Rattle.whole.specs.Lists.{at, tab}
@@ -13,7 +13,7 @@ use Rattle.av1.specs.Sides.{Side, of4, of8, of16, of32, len, bits, side}
 use Rattle.av1.specs.Network.{Step, run}
 use Rattle.av1.specs.Values.{clipped, hits}
 use Rattle.dct.specs.Halves.{before, last}
-use Rattle.dct.specs.Stages.{Through}
+use Rattle.dct.specs.Stages.{Through, reach}
 use Rattle.lanes.specs.Lanes.{lane}
 use Rattle.lanes.specs.Stages.{Left, Ready}
 use Rattle.lanes.proofs.Lanes.{lane-at}
@@ -21,10 +21,9 @@ use Rattle.lanes.proofs.Chain.{parted}
 use Rattle.lanes.proofs.Tail.{below, run-length, run-front, hits-front}
 use Rattle.itx_1d.specs.declared.Kind.the-variants.{Dct}
 use Rattle.itx_1d.specs.Passes.{pass}
-use Rattle.itx_1d.specs.Calls.{taken, put}
-use Rattle.itx_1d.specs.Inner.{source, gathered, Ranged, PassIs}
-use Rattle.itx_1d.proofs.Strides.{of-length, source-at, put-at, at-most-32}
-use Rattle.itx_1d.proofs.Through.{dct-is, ends-of}
+use Rattle.itx_1d.specs.Inner.{source, gathered, Ranged}
+use Rattle.itx_1d.proofs.Strides.{of-length, source-at, odd-high, at-most-32}
+use Rattle.itx_1d.proofs.Through.{value-is, mark-is, ends-of}
 use Rattle.residual.specs.Inner.{Laid, Quickly}
 use Rattle.residual.proofs.Laying.{back}
 
@@ -37,25 +36,35 @@ own-places of8 = tt
 own-places of16 = tt
 own-places of32 = tt
 
+pub never : {A : Type 0} → false ≡ true → A
+never e = absurd (subst T (sym e) tt)
+
 module _ {n w : ℕ} {f : ℕ → ℕ → ℤ} {u : List ℤ} (e : len (side n) ≡ n) (laid : Laid n w n f u) where
   -- the element in row j
   slot-is : (l j : ℕ) → l < w → j < n → at u (j * 32 + l) ≡ f (source n j) l
   slot-is l j h g = ap (λ (i : ℕ). at u (i * 32 + l)) (sym (back n e j g)) ∙ laid .rows (source n j) l (source-at n e j g .below) h
 
-  pub ready : {lo hi : ℤ} → Ranged lo hi → w ≤ 32 → ((i l : ℕ) → i < n → l < w → natAbs (f i l) ≤ 524288) → Ready (len (side n)) w u lo hi
-  ready g narrow small = record {
+  -- with `tx64` the upper half of the elements is zero, and so are the odd rows
+  pub ready : (tx64 : Bool) {lo hi : ℤ} → Ranged lo hi → w ≤ 32 → ((i l : ℕ) → i < n → l < w → natAbs (f i l) ≤ 524288) → (tx64 ≡ true → (i l : ℕ) → n / 2 ≤ i → i < n → l < w → f i l ≡ pos 0)
+      → Ready tx64 (len (side n)) w u lo hi
+  ready tx64 g narrow small zeros = record {
     long = laid .long;
     width = narrow;
-    inside = λ i l p q. (let h : i < n = subst (λ (j : ℕ). i < j) e p in subst⁻¹ (λ (z : ℤ). natAbs z ≤ 524288) (slot-is l i q h) (small (source n i) l (source-at n e i h .below) q));
+    inside = λ i l p q. (let h : i < n = subst (λ (j : ℕ). i < j) e p in subst⁻¹ (λ (z : ℤ). natAbs z ≤ reach tx64 i) (slot-is l i q h) (go i l h q tx64 refl (eqb (i % 2) 1) refl));
     ends = ends-of g;
   }
+    where
+      go : (i l : ℕ) → i < n → l < w → (b : Bool) → tx64 ≡ b → (odd : Bool) → eqb (i % 2) 1 ≡ odd → natAbs (f (source n i) l) ≤ cond (b && odd) 0 524288
+      go i l h q true t true o = subst⁻¹ (λ (z : ℤ). natAbs z ≤ 0) (zeros t (source n i) l (odd-high n e i h o) (source-at n e i h .below) q) (omega arith)
+      go i l h q true t false o = small (source n i) l (source-at n e i h .below) q
+      go i l h q false t odd o = small (source n i) l (source-at n e i h .below) q
 
   module _ {lo hi : ℤ} {v : List ℤ} (g : Ranged lo hi) (left : Left (halves n) lo hi w u v w) (l : ℕ) (l-in : l < w) where
     abbrev xs : List ℤ
     xs = tab n (λ i. f i l)
 
     abbrev front : List ℤ
-    front = tab n (λ j. at xs (source n j * 1))
+    front = tab n (λ j. at xs (source n j))
 
     front-length : length front ≡ n
     front-length = tab-length n _
@@ -70,40 +79,26 @@ module _ {n w : ℕ} {f : ℕ → ℕ → ℤ} {u : List ℤ} (e : len (side n) 
     lane-is =
         subst (λ (j : ℕ). lane u l ≡ tab j (λ i. at u (i * 32 + l)) ++ tab (32 - j) (λ i. at u ((j + i) * 32 + l))) e (parted (side n) u l)
         ∙ ap (λ (ys : List ℤ). ys ++ rest)
-        (tab-ext n _ _ (λ j h.
-        let s = source-at n e j h .below in
-        let one : source n j ≡ source n j * 1 = omega arith in
-        slot-is l j l-in h ∙ sym (tab-at n (λ i. f i l) (pos 0) (source n j) s) ∙ ap (at xs) one))
+        (tab-ext n _ _ (λ j h. slot-is l j l-in h ∙ sym (tab-at n (λ i. f i l) (pos 0) (source n j) (source-at n e j h .below))))
 
-    through : Through (bits (side n) - 1) lo hi (gathered xs 1 n) (run (clipped lo hi) (halves n) (gathered xs 1 n)) false
+    through : Through (bits (side n) - 1) lo hi (gathered xs n) (run (clipped lo hi) (halves n) (gathered xs n)) false
     through =
         let quiet = sym (hits-front lo hi (halves n) n front (replicate (32 - n) (pos 0)) front-length ours ∙ sym (hits-front lo hi (halves n) n front rest front-length ours) ∙ ap (hits lo hi (halves n)) (sym lane-is) ∙ left .quiet l l-in) in
         record { elements = refl; mark = quiet }
 
-    passed : PassIs Dct n 1 (natAbs lo) xs (put xs 1 (run (clipped lo hi) (halves n) (gathered xs 1 n)) n) false
-    passed = dct-is xs 1 n g e refl through
-
-    taken-is : taken xs 1 n ≡ xs
-    taken-is = tab-ext n _ _ (λ i h. let one : i * 1 ≡ i = omega arith in ap (at xs) one ∙ tab-at n (λ i. f i l) (pos 0) i h)
-
     pub unmarked : pass Dct (side n) (natAbs lo) xs .mark ≡ false
-    unmarked = ap (λ (ys : List ℤ). pass Dct (side n) (natAbs lo) ys .mark) (sym taken-is) ∙ sym (passed .mark)
+    unmarked = sym (mark-is n xs g e refl through)
 
     pub value : (y : ℕ) → y < n → at v (y * 32 + l) ≡ at (pass Dct (side n) (natAbs lo) xs .values) y
     value y h =
         let y-in : y < 32 = omega (arith, at-most-32 n e) in
-        let one : y ≡ y * 1 = omega arith in
-        let reach : (j : ℕ) → j < n → j * 1 < length xs = λ j g. omega (arith, tab-length n (λ i. f i l)) in
         let out = run (clipped lo hi) (halves n) front in
         let out-in : y < length out = omega (arith, run-length (clipped lo hi) (halves n) front, front-length) in
         sym (lane-at v l y y-in)
         ∙ ap (λ (ys : List ℤ). at ys y) (left .elements l l-in ∙ ap (run (clipped lo hi) (halves n)) lane-is ∙ run-front (clipped lo hi) (halves n) n front rest front-length ours)
         ∙ List·getD-append out rest (pos 0) y out-in
         ∙ sym (ap (λ (ys : List ℤ). at ys y) (run-front (clipped lo hi) (halves n) n front (replicate (32 - n) (pos 0)) front-length ours) ∙ List·getD-append out (replicate (32 - n) (pos 0)) (pos 0) y out-in)
-        ∙ sym (put-at xs 1 (run (clipped lo hi) (halves n) (gathered xs 1 n)) (omega arith) n y h reach)
-        ∙ ap (λ (ys : List ℤ). at ys (y * 1)) (passed .elements)
-        ∙ put-at xs 1 (pass Dct (side n) (natAbs lo) (taken xs 1 n) .values) (omega arith) n y h reach
-        ∙ ap (λ (ys : List ℤ). at (pass Dct (side n) (natAbs lo) ys .values) y) taken-is
+        ∙ value-is n xs g e refl through y
 
 -- none was given up
 pub all-left : {ss : List Step} {lo hi : ℤ} {w n : ℕ} {t u : List ℤ} → Left ss lo hi w t u n → w ≤ n → Left ss lo hi w t u w
@@ -111,7 +106,7 @@ all-left {ss} {lo} {hi} {w} {n} {t} {u} h g = let e : n ≡ w = omega (arith, h 
 
 -- the two answers of a quick form
 pub gave-up : {D : Type 0} {t : List ℤ} → Quickly false D t t
-gave-up = record { done = λ e. (let z : _≡_ {A = ℕ} 0 1 = cc in let x : ⊥ = omega arith in absurd x); same = λ e. refl }
+gave-up = record { done = never; same = λ e. refl }
 
 pub succeeded : {D : Type 0} {t u : List ℤ} → D → Quickly true D t u
-succeeded d = record { done = λ e. d; same = λ e. (let z : _≡_ {A = ℕ} 0 1 = cc in let x : ⊥ = omega arith in absurd x) }
+succeeded d = record { done = λ e. d; same = λ e. never (sym e) }

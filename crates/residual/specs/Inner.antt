@@ -185,6 +185,11 @@ ColumnsBy = ColumnsAreIn 1024
 abbrev pub ColumnsAre : Kind → ℕ → ℕ → ℕ → List ℤ → ℕ → List ℤ → Bool → Type 0
 ColumnsAre = ColumnsBy First
 
+-- of h rows, which are w wide, those from r on are zero
+pub record RowsFrom (r w h : ℕ) (t : List ℤ) : Type 0 where
+  pub some-rows : r ≤ h
+  pub zeros : (i : ℕ) → r * w ≤ i → at t i ≡ pos 0
+
 -- the columns at once: what the loops ask, and give
 pub record Lays (rev : List ℕ) (t : List ℤ) (w h : ℕ) (u : List ℤ) : Type 0 where
   pub lends : Lends rev u

@@ -264,7 +264,7 @@ fn quick_rows(
     ensures { λ q. ⌜ Inner.Quickly q (Inner.RowsAre plan (natAbs min) (now (coeff .entry)) r (now (t .exit)) Bool.false) (now (t .entry)) (now (t .exit)) × (length (now (u .exit)) ≡ 1024) ⌝ }
 {
     load(&mut *u, rev, plan, coeff, r);
-    let left = dct(&mut *u, r, plan.w, min, max);
+    let left = dct(&mut *u, r, plan.w, false, min, max);
     if left < r {
         return false;
     }
@@ -357,21 +357,22 @@ fn take(t: &mut [i32], u: &[i32; 1024], w: usize, h: usize)
     }
 }
 
-// Step 5 on all columns at once. Where a clip would act nothing is done.
+// Step 5 on all columns at once. Where a clip would act nothing is done. Where the lower half of the rows is zero, only the upper half is read.
 fn quick_columns(
     t: &mut [i32],
     u: &mut [i32; 1024],
     rev: &[u8; 32],
     w: usize,
     h: usize,
+    r: usize,
     min: i32,
     max: i32,
 ) -> bool
-    requires { ⌜ Inner.ColumnsPass Kind.Dct w h min max (now t) × Inner.Lends (now rev) (now u) ⌝ }
+    requires { ⌜ Inner.ColumnsPass Kind.Dct w h min max (now t) × Inner.Lends (now rev) (now u) × Inner.RowsFrom r w h (now t) ⌝ }
     ensures { λ q. ⌜ Inner.Quickly q (Inner.ColumnsAre Kind.Dct (natAbs min) w h (now (t .entry)) w (now (t .exit)) Bool.false) (now (t .entry)) (now (t .exit)) ⌝ }
 {
     lay(&mut *u, rev, &*t, w, h);
-    let left = dct(&mut *u, w, h, min, max);
+    let left = dct(&mut *u, w, h, r * 2 <= h, min, max);
     if left < w {
         return false;
     }
@@ -379,16 +380,17 @@ fn quick_columns(
     true
 }
 
-// Step 5.
+// Step 5, on a block whose rows from r on are zero.
 fn columns(
     t: &mut [i32],
     u: &mut [i32; 1024],
     rev: &[u8; 32],
     plan: Plan,
+    r: usize,
     min: i32,
     max: i32,
 ) -> bool
-    requires { ⌜ Inner.ColumnsPass (plan .columns) (plan .w) (plan .h) min max (now t) × Inner.Lends (now rev) (now u) ⌝ }
+    requires { ⌜ Inner.ColumnsPass (plan .columns) (plan .w) (plan .h) min max (now t) × Inner.Lends (now rev) (now u) × Inner.RowsFrom r (plan .w) (plan .h) (now t) ⌝ }
     ensures { λ m. ⌜ Inner.ColumnsAre (plan .columns) (natAbs min) (plan .w) (plan .h) (now (t .entry)) (plan .w) (now (t .exit)) m ⌝ }
 {
     let kind = plan.columns;
@@ -401,7 +403,7 @@ fn columns(
     let Kind::Dct = kind else {
         return columns_by_line(t, Engine::First, plan, min, max);
     };
-    if quick_columns(&mut *t, u, rev, w, h, min, max) {
+    if quick_columns(&mut *t, u, rev, w, h, r, min, max) {
         return false;
     }
     columns_by_line(t, Engine::First, plan, min, max)
@@ -472,16 +474,17 @@ fn columns_by(
     u: &mut [i32; 1024],
     rev: &[u8; 32],
     plan: Plan,
+    r: usize,
     min: i32,
     max: i32,
 ) -> bool
-    requires { ⌜ Inner.ColumnsPass (plan .columns) (plan .w) (plan .h) min max (now t) × Inner.Lends (now rev) (now u) × T (Blocks.serves engine (plan .columns)) ⌝ }
+    requires { ⌜ Inner.ColumnsPass (plan .columns) (plan .w) (plan .h) min max (now t) × Inner.Lends (now rev) (now u) × Inner.RowsFrom r (plan .w) (plan .h) (now t) × T (Blocks.serves engine (plan .columns)) ⌝ }
     ensures { λ m. ⌜ Inner.ColumnsBy engine (plan .columns) (natAbs min) (plan .w) (plan .h) (now (t .entry)) (plan .w) (now (t .exit)) m ⌝ }
 {
     let Engine::First = engine else {
         return columns_by_line(t, engine, plan, min, max);
     };
-    columns(t, u, rev, plan, min, max)
+    columns(t, u, rev, plan, r, min, max)
 }
 
 // Steps 1 to 5 with r live rows, on a scratch block of zeros. The engines differ in steps 3 and 5.
@@ -503,6 +506,6 @@ pub fn resolve(
     let along = rows_by(engine, &mut *t, &mut u, &rev, plan, coeff, r, lo, hi);
     let Range { lo: min, hi: max } = depth.column_range();
     round(&mut *t, plan, r * w, min, max);
-    let down = columns_by(engine, &mut *t, &mut u, &rev, plan, min, max);
+    let down = columns_by(engine, &mut *t, &mut u, &rev, plan, r, min, max);
     along | down
 }

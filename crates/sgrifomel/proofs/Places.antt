@@ -3,7 +3,8 @@ use mathlib.Core.Path.{_≡_, refl, ap, _∙_, subst⁻¹}
 use mathlib.Core.Bool.{Bool, true, false, cond}
 use mathlib.Core.List.{List}
 use mathlib.Core.Option.{Option, none, some}
-use Prim.Native.Nat.{ℕ, zero, suc, _*_, _-_, _≤_, _<_}
+use Prim.Native.Nat.{ℕ, zero, suc, _*_, _-_, _/_, _≤_, _<_}
+use native.Mathlib.Nat.{le-trans, le-refl, div-le-self}
 use native.Mathlib.Omega.{arith}
 use lib.Dec.{eqb, leb}
 use lib.IntN.{ℤ, natAbs}
@@ -13,9 +14,10 @@ use Rattle.whole.specs.Lists.{at, first, one-more}
 use Rattle.whole.specs.Checks.{Check, accept, refuse, unless, unless-at}
 use Rattle.av1.specs.Sides.{Side, of4, of8, of16, of32, len}
 use Rattle.itx_1d.specs.declared.Kind.{Kind}
-use Rattle.itx_1d.specs.declared.Kind.the-variants.{Wht}
+use Rattle.itx_1d.specs.declared.Kind.the-variants.{Dct, Wht}
 use Rattle.itx_1d.specs.declared.Pass.{Pass}
-use Rattle.itx_1d.specs.Calls.{Answer, Outcome, answer-of, bad-range, checks, outcome-of, accepted, ranged, unranged, Meets}
+use Rattle.itx_1d.specs.Passes.{Passed, pass, lower}
+use Rattle.itx_1d.specs.Calls.{Answer, Outcome, answer-of, bad-range, checks, outcome-of, accepted, judged, ranged, halved, unranged, Meets}
 use Rattle.sgrifomel.specs.Words.{packed, Packs}
 
 -- what is found is one of the n
@@ -41,12 +43,12 @@ pub small-at : {A : Type 0} (p : Option ℕ) (number : ℕ) (k : Check A) → ((
 small-at (some i) number k b h = b i refl
 small-at none number k b h = h
 
-small-checks : (n : ℕ) (c : List ℤ) (s : ℕ) (lo hi : ℤ) → n ≤ 32 → Small (checks n c s lo hi)
-small-checks n c s lo hi l =
+small-checks : (n looked : ℕ) (c : List ℤ) (s : ℕ) (lo hi : ℤ) → looked ≤ 32 → Small (checks n looked c s lo hi)
+small-checks n looked c s lo hi l =
     small-unless (eqb s 0) 12 _
     (small-unless (leb (length c) ((n - 1) * s)) 13 _
-    (small-at (first n (λ i. outside (at c (i * s)) lo hi)) 14 (accept tt)
-    (λ i e. omega (arith, first-below n (λ i. outside (at c (i * s)) lo hi) i e))
+    (small-at (first looked (λ i. outside (at c (i * s)) lo hi)) 14 (accept tt)
+    (λ i e. omega (arith, first-below looked (λ i. outside (at c (i * s)) lo hi) i e))
     tt))
 
 -- and so is that of the outcome
@@ -60,19 +62,26 @@ len-small of8 = omega arith
 len-small of16 = omega arith
 len-small of32 = omega arith
 
+small-judged : (f : List ℤ → Passed) (n : Side) (looked : ℕ) (c : List ℤ) (s : ℕ) (lo hi : ℤ) → looked ≤ len n → judged f n looked c s lo hi .answer .place < 1024
+small-judged f n looked c s lo hi l =
+    let k = checks (len n) looked c s lo hi in
+    small-outcome c (accepted f n s c) (unless (bad-range lo hi) 11 k) refl
+    (small-unless (bad-range lo hi) 11 k (small-checks (len n) looked c s lo hi (le-trans l (len-small n))))
+
 pub small-ranged : (kind : Kind) (n : Side) (c : List ℤ) (s : ℕ) (lo hi : ℤ) → ranged kind n c s lo hi .answer .place < 1024
 unfolding ranged
-small-ranged kind n c s lo hi =
-    let k = checks (len n) c s lo hi in
-    small-outcome c (accepted kind n (natAbs lo) s c) (unless (bad-range lo hi) 11 k) refl
-    (small-unless (bad-range lo hi) 11 k (small-checks (len n) c s lo hi (len-small n)))
+small-ranged kind n c s lo hi = small-judged (pass kind n (natAbs lo)) n (len n) c s lo hi (le-refl _)
+
+pub small-halved : (n : Side) (c : List ℤ) (s : ℕ) (lo hi : ℤ) → halved n c s lo hi .answer .place < 1024
+unfolding halved
+small-halved n c s lo hi = small-judged (λ xs. pass Dct n (natAbs lo) (lower n xs)) n (len n / 2) c s lo hi (div-le-self (len n) 2)
 
 pub small-unranged : (c : List ℤ) (s : ℕ) → unranged c s .answer .place < 1024
 unfolding unranged
 small-unranged c s =
     let lo = low 16777216 in
     let hi = high 16777216 in
-    small-outcome c (accepted Wht of4 16777216 s c) (checks 4 c s lo hi) refl (small-checks 4 c s lo hi (omega arith))
+    small-outcome c (accepted (pass Wht of4 16777216) of4 s c) (checks 4 4 c s lo hi) refl (small-checks 4 4 c s lo hi (omega arith))
 
 -- so an answer that meets an outcome with such a place can be packed, and the word is the outcome's
 pub packable : {o : Outcome} {r : Pass} {d : List ℤ} → o .answer .place < 1024 → Meets o r d → answer-of r .place < 1024

@@ -58,6 +58,54 @@ pub extern "C" fn sgrifomel_inv_dct32_1d(c: &mut [i32], stride: usize, min: i32,
 }
 
 #[no_mangle]
+pub extern "C" fn sgrifomel_inv_dct4_half_1d(
+    c: &mut [i32],
+    stride: usize,
+    min: i32,
+    max: i32,
+) -> u64
+    ensures { λ r. ⌜ Packs (Calls.halved of4 (now (c .entry)) stride min max) r (now (c .exit)) ⌝ }
+{
+    pack(itx_1d::inv_dct4_half_1d(c, stride, min, max))
+}
+
+#[no_mangle]
+pub extern "C" fn sgrifomel_inv_dct8_half_1d(
+    c: &mut [i32],
+    stride: usize,
+    min: i32,
+    max: i32,
+) -> u64
+    ensures { λ r. ⌜ Packs (Calls.halved of8 (now (c .entry)) stride min max) r (now (c .exit)) ⌝ }
+{
+    pack(itx_1d::inv_dct8_half_1d(c, stride, min, max))
+}
+
+#[no_mangle]
+pub extern "C" fn sgrifomel_inv_dct16_half_1d(
+    c: &mut [i32],
+    stride: usize,
+    min: i32,
+    max: i32,
+) -> u64
+    ensures { λ r. ⌜ Packs (Calls.halved of16 (now (c .entry)) stride min max) r (now (c .exit)) ⌝ }
+{
+    pack(itx_1d::inv_dct16_half_1d(c, stride, min, max))
+}
+
+#[no_mangle]
+pub extern "C" fn sgrifomel_inv_dct32_half_1d(
+    c: &mut [i32],
+    stride: usize,
+    min: i32,
+    max: i32,
+) -> u64
+    ensures { λ r. ⌜ Packs (Calls.halved of32 (now (c .entry)) stride min max) r (now (c .exit)) ⌝ }
+{
+    pack(itx_1d::inv_dct32_half_1d(c, stride, min, max))
+}
+
+#[no_mangle]
 pub extern "C" fn sgrifomel_inv_identity4_1d(
     c: &mut [i32],
     stride: usize,

@@ -11,7 +11,7 @@ use mir.Val.{Fits, SFits, toZ, ofZ}
 use mir.ValLaws.{toZ-ofZ, sfits-le}
 use Rattle.whole.specs.Numbers.{_>>_}
 use Rattle.whole.proofs.Parts.{pp, nn, parts-lt, parts-nlt}
-use Rattle.whole.proofs.Sizes.{abs-neg, abs-sub, abs-fits}
+use Rattle.whole.proofs.Sizes.{abs-neg, is-zero, abs-sub, abs-fits}
 
 rem-size : (v : ℤ) → natAbs (remZ v (pos 2)) ≡ natAbs v % 2
 rem-size (pos n) = refl
@@ -20,10 +20,6 @@ rem-size (negsuc n) = abs-neg (pos (suc n % 2))
 quot-size : (v : ℤ) → natAbs (quotZ v (pos 2)) ≡ natAbs v / 2
 quot-size (pos n) = refl
 quot-size (negsuc n) = abs-neg (pos (suc n / 2))
-
-is-zero : (z : ℤ) → natAbs z ≡ 0 → z ≡ pos 0
-is-zero (pos n) e = ap pos e
-is-zero (negsuc n) e = let f : ⊥ = omega arith in absurd f
 
 -- what a local that holds v is read as
 abbrev pub read : Width → ℤ → ℤ

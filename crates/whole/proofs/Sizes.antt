@@ -15,6 +15,10 @@ abs-neg (pos zero) = refl
 abs-neg (pos (suc n)) = refl
 abs-neg (negsuc n) = refl
 
+pub is-zero : (z : ℤ) → natAbs z ≡ 0 → z ≡ pos 0
+is-zero (pos n) e = ap pos e
+is-zero (negsuc n) e = let f : ⊥ = omega arith in absurd f
+
 pick-abs : (t : Bool) (a b : ℕ) → (T t → a < b) → natAbs (cond t (negsuc (b - suc a)) (pos (a - b))) ≤ a + b
 pick-abs true a b f = let h : a < b = f tt in omega arith
 pick-abs false a b f = omega arith

@@ -8,7 +8,7 @@ use lib.ListN.{take, drop}
 use borrow.Author.Needs.{needs}
 use Rattle.av1.specs.Network.{Step}
 use Rattle.dct.specs.Halves.{before, last}
-use Rattle.dct.proofs.Walk.{Walked, halved, turned, joined, ask-turns, ask-joins}
+use Rattle.dct.proofs.Walk.{Walked, halved, turned, joined, by-tx64, in-full, ask-turns, ask-joins}
 use Rattle.dct.proofs.dct8.Statement.{statement}
 use Rattle.dct.proofs.dct8.Tie as tie
 
@@ -16,7 +16,7 @@ abbrev steps : ℕ → ℕ → List Step
 steps i j = take (j - i) (drop i (before 2 ++ last 2))
 
 abbrev Walk : tie.Start → ℕ → List ℤ → Bool → Type 0
-Walk s k u r = Walked (s .args .min) (s .args .max) (s .args .t .now) (steps 0 k) u r
+Walk s k u r = Walked (s .args .tx64) (s .args .min) (s .args .max) (s .args .t .now) (steps 0 k) u r
 
 abbrev s0 : tie.After-dct4 → tie.Start
 s0 c = c .before .before
@@ -27,11 +27,11 @@ m0 c = c .dct4 .result
 w0 : (c : tie.After-dct4) → Walk (s0 c) 4 (c .dct4 .last .0) (m0 c)
 w0 c = halved 1 (s0 c .fits .min) (s0 c .fits .max) (s0 c .pre) (c .dct4 .ensures)
 
-abbrev s1 : tie.After-turns → tie.Start
+abbrev s1 : tie.After-first → tie.Start
 s1 c = s0 (c .before .before .before .before)
 
-w1 : (c : tie.After-turns) → Walk (s1 c) 6 (c .turns .last .0) (m0 (c .before .before .before .before))
-w1 c = turned (w0 (c .before .before .before .before)) (steps 4 6) tt (c .turns .ensures)
+w1 : (c : tie.After-first) → Walk (s1 c) 6 (c .first .last .0) (m0 (c .before .before .before .before))
+w1 c = turned (w0 (c .before .before .before .before)) (steps 4 6) tt (c .first .ensures)
 
 abbrev s2 : tie.After-joins → tie.Start
 s2 c = s1 (c .before .before .before)
@@ -42,11 +42,11 @@ m2 c = m0 (c .before .before .before .before .before .before .before) || c .join
 w2 : (c : tie.After-joins) → Walk (s2 c) 8 (c .joins .last .0) (m2 c)
 w2 c = joined (w1 (c .before .before .before)) (steps 6 8) (c .joins .ensures)
 
-abbrev s3 : tie.After-turns2 → tie.Start
+abbrev s3 : tie.After-turns → tie.Start
 s3 c = s2 (c .before .before .before .before)
 
-w3 : (c : tie.After-turns2) → Walk (s3 c) 9 (c .turns2 .last .0) (m2 (c .before .before .before .before))
-w3 c = turned (w2 (c .before .before .before .before)) (steps 8 9) tt (c .turns2 .ensures)
+w3 : (c : tie.After-turns) → Walk (s3 c) 9 (c .turns .last .0) (m2 (c .before .before .before .before))
+w3 c = turned (w2 (c .before .before .before .before)) (steps 8 9) tt (c .turns .ensures)
 
 returns : tie.Need-returns
 returns c =
@@ -60,12 +60,12 @@ dct8-spec =
     (λ c κs. search needs)
     (λ c. search needs)
     (λ c. search needs)
-    (λ c κs. ask-turns (w0 (c .before .before .before)) refl tt)
+    (λ c κs. ask-turns by-tx64 (w0 (c .before .before .before)) refl tt tt)
     (λ c. search needs)
-    (λ c κs. ask-joins (w1 (c .before .before)) tt)
+    (λ c κs. ask-joins (w1 (c .before .before)) tt tt)
     (λ c. search needs)
     (λ c. search needs)
-    (λ c κs. ask-turns (w2 (c .before .before .before)) refl tt)
+    (λ c κs. ask-turns in-full (w2 (c .before .before .before)) refl tt tt)
     (λ c. search needs)
-    (λ c κs. ask-joins (w3 (c .before .before)) tt)
+    (λ c κs. ask-joins (w3 (c .before .before)) tt tt)
     returns)

@@ -1,11 +1,9 @@
 -- `dct::turn` meets its contract.
-use mathlib.Core.Path.{_≡_, sym, ap, _∙_}
-use mathlib.Core.Bool.{Bool}
+use mathlib.Core.Path.{_≡_, ap, _∙_}
 use mathlib.Core.List.{List, [], _∷_}
 use Prim.Native.Nat.{ℕ}
 use native.Mathlib.Omega.{arith}
 use lib.IntN.{ℤ, pos, _+ℤ_, _-ℤ_, _*ℤ_}
-use lib.ListN.{set}
 use lib.Dec.{T}
 use mir.Syntax.{w32}
 use mir.Val.{toZ, ofZ}
@@ -16,6 +14,8 @@ use Rattle.whole.specs.Lists.{at}
 use Rattle.whole.proofs.Machine.{E, var, lit, _⊕_, _⊝_, _⊛_, Within, ok, raw, ev, need, reads, held-small, ring}
 use Rattle.av1.specs.Network.{B, step}
 use Rattle.av1.specs.Values.{exact, turnX, turnY}
+use Rattle.dct.specs.Stages.{stored}
+use Rattle.dct.proofs.Alone.{turned-is}
 use Rattle.dct.proofs.turn.Statement.{statement}
 use Rattle.dct.proofs.turn.Tie as tie
 
@@ -31,9 +31,6 @@ h s = (s .pre .x-small, (s .pre .y-small, (s .pre .cos-small, (s .pre .sin-small
 
 abbrev less-sin : E
 less-sin = lit (pos 0) ⊝ var 3
-
-sub-dot : tie.Need-sub-dot
-sub-dot c = let s = c .before .before in need (ρ s) β (h s) less-sin w32 tt
 
 dot-requires : tie.Need-dot-requires
 dot-requires c κs =
@@ -68,18 +65,11 @@ second c =
     ∙ c .dot2 .ensures
     ∙ (λ i. round2 (is s (var 0) tt i *ℤ is s (var 3) tt i +ℤ is s (var 1) tt i *ℤ is s (var 2) tt i) 12)
 
-abbrev turned : tie.Start → Bool → List ℤ
-turned s flip = step exact (B (s .args .a) (s .args .b) (s .args .cos) (s .args .sin) flip) (s .args .t .now)
-
 returns : tie.Need-returns
 returns c =
-    let s = start (c .before) in
-    (λ i. set (set (s .args .t .now) (s .args .a) (second (c .before) i)) (s .args .b) (first (c .before) i)) ∙ ap (turned s) (sym (c .if1 .taken))
-
-returns-2 : tie.Need-returns-2
-returns-2 c =
-    let s = start (c .before) in
-    (λ i. set (set (s .args .t .now) (s .args .a) (first (c .before) i)) (s .args .b) (second (c .before) i)) ∙ ap (turned s) (sym (c .if1 .left))
+    let d = c .before .before in
+    let s = start d in
+    c .store .ensures ∙ (λ i. stored (s .args .a) (s .args .b) (s .args .flip) (first d i) (second d i) (s .args .t .now)) ∙ turned-is (s .args .a) (s .args .b) (s .args .cos) (s .args .sin) (s .args .flip) (s .args .t .now)
 
 pub turn-spec : {M : Type 1} → statement M
 turn-spec =
@@ -89,16 +79,8 @@ turn-spec =
     (λ c. search needs)
     (λ c. search needs)
     (λ c. search needs)
-    sub-dot
+    (λ c. let s = c .before .before in need (ρ s) β (h s) less-sin w32 tt)
     dot-requires
     (λ c κs. search needs)
-    (λ c. search needs)
-    (λ c. search needs)
-    (λ c. search needs)
-    (λ c. search needs)
-    (λ c. search needs)
-    (λ c. search needs)
-    (λ c. search needs)
-    (λ c. search needs)
-    returns
-    returns-2)
+    (λ c κs. search needs)
+    returns)

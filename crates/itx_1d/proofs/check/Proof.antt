@@ -1,6 +1,7 @@
 -- `itx_1d::check` meets its contract.
 use mathlib.Core.Path.{_≡_, sym, _∙_}
 use Prim.Native.Nat.{_*_}
+use native.Mathlib.Nat.{le-trans}
 use lib.Dec.{eqb}
 use mir.Syntax.{w32}
 use mir.ValLaws.{toZ-ofZ}
@@ -18,7 +19,7 @@ check-elements-requires c κs =
     record {
       inside = λ b e j h.
           let u = placed (s .args .before) (eqb (s .args .stride) 0) _ (sym (c .check-place .ensures) ∙ e) in
-          in-reach (s .args .c .now) (s .args .n) (s .args .stride) (u .1) j h;
+          in-reach (s .args .c .now) (s .args .n) (s .args .stride) (u .1) j (le-trans h (s .pre .1));
     }
 
 returns : tie.Need-returns
@@ -28,7 +29,7 @@ returns c =
     let lo = toZ-ofZ w32 (s .args .min) (s .fits .min) in
     let hi = toZ-ofZ w32 (s .args .max) (s .fits .max) in
     c .check-elements .ensures
-    ∙ (λ k. after (p .check-place .ensures k) (element-check (first (s .args .n) (λ i. outside (at (s .args .c .now) (i * s .args .stride)) (lo k) (hi k)))))
+    ∙ (λ k. after (p .check-place .ensures k) (element-check (first (s .args .looked) (λ i. outside (at (s .args .c .now) (i * s .args .stride)) (lo k) (hi k)))))
 
 pub check-spec : {M : Type 1} → statement M
-check-spec = tie.close (tie.spec (λ c κs. not-0 (c .args .n) (c .pre)) check-elements-requires returns)
+check-spec = tie.close (tie.spec (λ c κs. not-0 (c .args .n) (c .pre .0)) check-elements-requires returns)

@@ -1,58 +1,49 @@
 -- `itx_1d::gather` meets its contract.
-use mathlib.Core.Path.{_≡_, refl, ap, _∙_}
+use mathlib.Core.Path.{_≡_, ap, _∙_}
+use mathlib.Core.Bool.{Bool}
 use mathlib.Core.List.{List, _++_}
-use Prim.Native.Nat.{ℕ, _≤_, _<_, _-_, _*_, _/_}
+use Prim.Native.Nat.{ℕ, _≤_, _<_, _-_}
 use native.Mathlib.Omega.{arith}
+use borrow.Author.Needs.{needs}
 use lib.IntN.{ℤ, pos}
-use lib.ListN.{length, set, replicate}
+use lib.ListN.{set, replicate}
 use mir.Syntax.{w32}
 use mir.ValLaws.{toZ-ofZ}
 use Rattle.whole.specs.Lists.{at, tab}
-use Rattle.itx_1d.specs.Inner.{source}
-use Rattle.itx_1d.proofs.Strides.{Source, source-at, at-most-32, not-0, one-more}
+use Rattle.av1.specs.Sides.{side}
+use Rattle.itx_1d.specs.Calls.{taken}
+use Rattle.itx_1d.specs.Inner.{source, read}
+use Rattle.itx_1d.proofs.Strides.{at-most-32, one-more}
 use Rattle.itx_1d.proofs.gather.Statement.{statement}
 use Rattle.itx_1d.proofs.gather.Tie as tie
 
-abbrev element : List ℤ → ℕ → ℕ → ℕ → ℤ
-element c s n i = at c (source n i * s)
+-- element i of the work array
+abbrev element : List ℤ → ℕ → ℕ → Bool → ℕ → ℤ
+element c s n tx64 i = at (read tx64 (side n) (taken c s n)) (source n i)
 
 abbrev Inv-loop : tie.InvT-loop
-Inv-loop t₀ c stride n m i₀ t i = (t ≡ tab i (element c stride n) ++ replicate (32 - i) (pos 0)) × (i ≤ n) × (m ≡ 32 / n)
+Inv-loop t₀ c stride n tx64 i₀ t i = (t ≡ tab i (element c stride n tx64) ++ replicate (32 - i) (pos 0)) × (i ≤ n)
 
 abbrev μ-loop : tie.MeasureT-loop
-μ-loop t₀ c stride n m i₀ t i = n - i
+μ-loop t₀ c stride n tx64 i₀ t i = n - i
 
-abbrev start : tie.In-loop Inv-loop μ-loop → tie.Start Inv-loop μ-loop
-start c = c .before .before
-
-here : (c : tie.In-loop Inv-loop μ-loop) → Source (start c .args .n) (c .before .loop .i)
-here c = source-at (start c .args .n) (start c .pre .0 .is-length) (c .before .loop .i) (c .loop-test .taken)
-
-there : (c : tie.In-loop Inv-loop μ-loop) → source (start c .args .n) (c .before .loop .i) * start c .args .stride < length (start c .args .c .now)
-there c = start c .pre .0 .inside _ (here c .below)
-
--- what the table holds
-byte : (c : tie.In-loop Inv-loop μ-loop) → source (start c .args .n) (c .before .loop .i) < 18446744073709551616
-byte c = omega (arith, here c .below, at-most-32 (start c .args .n) (start c .pre .0 .is-length))
+below : (c : tie.In-loop Inv-loop μ-loop) → c .before .loop .i < 32
+below c = let s = c .before .before in omega (arith, at-most-32 (s .args .n) (s .pre .0 .is-length), c .loop-test .taken)
 
 loop-again : tie.Need-loop-again Inv-loop μ-loop
 loop-again c =
-    let h = c .before .before in
+    let e = c .before in
+    let h = e .before in
     let s = h .before in
-    let n = s .args .n in
-    let v = element (s .args .c .now) (s .args .stride) n (h .loop .i) in
-    let w = toZ-ofZ w32 v (record { sfits = c .v .given }) in (
-      (λ k. set (h .loop .inv .0 k) (h .loop .i) (w k)) ∙ one-more (h .loop .i) (element (s .args .c .now) (s .args .stride) n) (omega (arith, at-most-32 n (s .pre .0 .is-length), c .before .loop-test .taken)),
-      omega arith,
-      h .loop .inv .2,
-    )
+    let v = toZ-ofZ w32 (c .element .result) (record { sfits = c .element .ok }) ∙ c .element .ensures in
+    ((λ k. set (h .loop .inv .0 k) (h .loop .i) (v k)) ∙ one-more (h .loop .i) (element (s .args .c .now) (s .args .stride) (s .args .n) (s .args .tx64)) (below e), omega arith)
 
 returns : tie.Need-returns Inv-loop μ-loop
 returns c =
     let h = c .before in
     let s = h .before in
     let all : h .loop .i ≡ s .args .n = omega arith in
-    h .loop .inv .0 ∙ ap (λ (k : ℕ). tab k (element (s .args .c .now) (s .args .stride) (s .args .n)) ++ replicate (32 - k) (pos 0)) all
+    h .loop .inv .0 ∙ ap (λ (k : ℕ). tab k (element (s .args .c .now) (s .args .stride) (s .args .n) (s .args .tx64)) ++ replicate (32 - k) (pos 0)) all
 
 pub gather-spec : {M : Type 1} → statement M
 gather-spec =
@@ -60,16 +51,10 @@ gather-spec =
     (tie.spec
     Inv-loop
     μ-loop
-    (λ c. omega (arith, not-0 (c .args .n) (c .pre .0 .is-length)))
-    (λ c. (c .pre .1, omega arith, refl))
-    (λ c. omega (arith, here c .in-table))
-    (λ c. omega (arith, here c .in-table))
-    (λ c. record { fits = byte c })
-    (λ c. omega (arith, there c))
-    (λ c. omega (arith, there c))
-    (λ c. omega (arith, there c))
-    (λ c. omega (arith, at-most-32 _ (c .before .before .before .pre .0 .is-length)))
-    (λ c. omega (arith, at-most-32 _ (c .before .before .before .pre .0 .is-length)))
+    (λ c. (c .pre .1, omega arith))
+    (λ c κs. (c .before .before .pre .0, c .loop-test .taken))
+    (λ c. omega (arith, below (c .before)))
+    (λ c. omega (arith, below (c .before)))
     (λ c. omega arith)
     (λ c. omega arith)
     loop-again

@@ -31,7 +31,8 @@ returns c =
     let e = d .before .before in
     let s = e .before .before in
     given s Dct (e .enum-told .given .1)
-    (subst (λ (z : ℤ). PassIs Dct (s .args .n) (s .args .stride) (natAbs z) (s .args .c .now) (d .dct .last .0) (d .dct .result)) (toZ-ofZ w32 (s .args .min) (s .fits .min)) (d .dct .ensures))
+    (subst (λ (z : ℤ). PassIs Dct (s .args .n) (s .args .stride) (natAbs z) (s .args .c .now) (d .dct .last .0) (d .dct .result)) (toZ-ofZ w32 (s .args .min) (s .fits .min))
+    (record { elements = d .dct .ensures .elements; mark = d .dct .ensures .mark }))
 
 returns-2 : tie.Need-returns-2
 unfolding pass

@@ -17,8 +17,9 @@ use Rattle.itx_1d.specs.declared.Kind.the-variants.{Wht}
 use Rattle.itx_1d.specs.declared.Pass.{Pass}
 use Rattle.itx_1d.specs.declared.Pass.the-variants.{Done}
 use Rattle.itx_1d.specs.Calls.{Outcome, accepted, unranged, Meets}
+use Rattle.itx_1d.specs.Passes.{pass}
 use Rattle.itx_1d.specs.Inner.{PassIs}
-use Rattle.itx_1d.proofs.Accepted.{verdict, defined, Good, good, accepted-is, refused-is, passable, done, any-range}
+use Rattle.itx_1d.proofs.Accepted.{verdict, defined, Good, good, accepted-is, refused-is, seen, done, any-range}
 use Rattle.itx_1d.proofs.Pass.{the-type}
 use Rattle.itx_1d.proofs.inv_wht4_1d.Statement.{statement}
 use Rattle.itx_1d.proofs.inv_wht4_1d.Tie as tie
@@ -34,7 +35,7 @@ module _ (s : tie.Start) where
   offender = first 4 (λ i. outside (at (s .args .c .now) (i * s .args .stride)) (low 16777216) (high 16777216))
 
   abbrev out : Outcome
-  out = accepted Wht of4 16777216 (s .args .stride) (s .args .c .now)
+  out = accepted (pass Wht of4 16777216) of4 (s .args .stride) (s .args .c .now)
 
   defined-is : unranged (s .args .c .now) (s .args .stride) ≡ defined false none-apart short offender (s .args .c .now) out
   unfolding unranged
@@ -62,14 +63,15 @@ wht4-requires : tie.Need-wht4-requires
 wht4-requires c κs =
     let t = c .before in
     let s = start (t .before .before) in
-    passable (s .args .c .now) (s .args .stride) 4 (low 16777216) (high 16777216) refl (omega arith) (omega arith) (all-good t)
+    seen (s .args .c .now) (s .args .stride) 4 4 (low 16777216) (high 16777216) refl (omega arith) (omega arith) (all-good t)
 
 returns-2 : tie.Need-returns-2
 returns-2 c =
     let d = c .before in
     let t = d .before .before in
     let s = start (t .before .before) in
-    subst⁻¹ (λ (o : Outcome). Meets o (Done false) (d .wht4 .last .0)) (defined-is s ∙ accepted-is (s .args .c .now) (out s) (all-good t)) (done {n = 4} refl (any-range (d .wht4 .ensures)))
+    let is : PassIs Wht 4 (s .args .stride) 16777216 (s .args .c .now) (d .wht4 .last .0) false = any-range (d .wht4 .ensures) in
+    subst⁻¹ (λ (o : Outcome). Meets o (Done false) (d .wht4 .last .0)) (defined-is s ∙ accepted-is (s .args .c .now) (out s) (all-good t)) (done (pass Wht of4 16777216) 4 (s .args .stride) (s .args .c .now) refl (is .elements) (is .mark))
 
 pub inv-wht4-1d-spec : {M : Type 1} → statement M
 inv-wht4-1d-spec =

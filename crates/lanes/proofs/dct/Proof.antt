@@ -1,6 +1,6 @@
 -- `lanes::dct` meets its contract.
 use mathlib.Core.Path.{_≡_, ap, subst, subst⁻¹}
-use mathlib.Core.Bool.{cond}
+use mathlib.Core.Bool.{Bool, cond}
 use mathlib.Core.List.{List, _++_}
 use Prim.Native.Nat.{ℕ, _-_}
 use native.Mathlib.Nat.{le-refl}
@@ -20,8 +20,8 @@ sided : {lo hi : ℤ} {w r : ℕ} {t u : List ℤ} (n : ℕ) (k : Side) → side
     → Left (before (bits (side n) - 1) ++ last (bits (side n) - 1)) lo hi w t u r
 sided {lo} {hi} {w} {r} {t} {u} n k e f g h = subst⁻¹ (λ (j : Side). Left (before (bits j - 1) ++ last (bits j - 1)) lo hi w t u r) e (held f g h)
 
-asked : {lo hi : ℤ} {w : ℕ} {t : List ℤ} (n : ℕ) (k : Side) → side n ≡ k → SFits w32 lo → SFits w32 hi → Ready (len (side n)) w t lo hi → Ready (len k) w t (toZ w32 (ofZ w32 lo)) (toZ w32 (ofZ w32 hi))
-asked {lo} {hi} {w} {t} n k e f g h = half-ready (le-refl _) f g (subst (λ (j : Side). Ready (len j) w t lo hi) e h)
+asked : {b : Bool} {lo hi : ℤ} {w : ℕ} {t : List ℤ} (n : ℕ) (k : Side) → side n ≡ k → SFits w32 lo → SFits w32 hi → Ready b (len (side n)) w t lo hi → Ready b (len k) w t (toZ w32 (ofZ w32 lo)) (toZ w32 (ofZ w32 hi))
+asked {b} {lo} {hi} {w} {t} n k e f g h = half-ready (le-refl _) f g (subst (λ (j : Side). Ready b (len j) w t lo hi) e h)
 
 sided-32 : (n : ℕ) → (n ≡ 4 → ⊥) → (n ≡ 8 → ⊥) → (n ≡ 16 → ⊥) → side n ≡ of32
 sided-32 n p q r = λ i. cond (ne-eqb n 4 p i) of4 (cond (ne-eqb n 8 q i) of8 (cond (ne-eqb n 16 r i) of16 of32))

@@ -4,6 +4,7 @@ use lib.Dec.{lit≤}
 use lib.IntN.{ℤ}
 use mathlib.Core.List.{List}
 use Rattle.av1.specs.Sides.{of16}
+use Rattle.dct.proofs.Walk.{by-tx64, in-full}
 use Rattle.lanes.specs.Stages.{cut, Left}
 use Rattle.lanes.proofs.Chain.{ask, half-ready, held, chain}
 use Rattle.lanes.proofs.dct16.Statement.{statement}
@@ -35,7 +36,7 @@ dct16-spec =
     tie.close
     (tie.spec
     (λ c κs. let s = c .before in half-ready (lit≤ tt) (s .fits .min) (s .fits .max) (s .pre))
-    (λ c κs. let e = c .before in ask of16 (s0 e .pre) (w0 e) (cut 13 21) (λ rest. tt))
-    (λ c κs. let e = c .before in ask of16 (s1 e .pre) (w1 e) (cut 21 27) (λ rest. tt))
-    (λ c κs. let e = c .before in ask of16 (s2 e .pre) (w2 e) (cut 27 37) (λ rest. tt))
+    (λ c κs. let e = c .before in ask of16 (s0 e .pre) by-tx64 (w0 e) (cut 13 21) (λ rest. tt) (λ rest. tt))
+    (λ c κs. let e = c .before in ask of16 (s1 e .pre) in-full (w1 e) (cut 21 27) (λ rest. tt) (λ rest. tt))
+    (λ c κs. let e = c .before in ask of16 (s2 e .pre) in-full (w2 e) (cut 27 37) (λ rest. tt) (λ rest. tt))
     (λ c. let e = c .before .before in chain (cut 0 27) (cut 27 37) (s2 e .fits .min) (s2 e .fits .max) (w2 e) (c .last16 .ensures)))

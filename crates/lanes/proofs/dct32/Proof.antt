@@ -4,6 +4,7 @@ use lib.Dec.{lit≤}
 use lib.IntN.{ℤ}
 use mathlib.Core.List.{List}
 use Rattle.av1.specs.Sides.{of32}
+use Rattle.dct.proofs.Walk.{by-tx64, in-full}
 use Rattle.lanes.specs.Stages.{cut, Left}
 use Rattle.lanes.proofs.Chain.{ask, half-ready, held, chain}
 use Rattle.lanes.proofs.dct32.Statement.{statement}
@@ -59,11 +60,11 @@ dct32-spec =
     tie.close
     (tie.spec
     (λ c κs. let s = c .before in half-ready (lit≤ tt) (s .fits .min) (s .fits .max) (s .pre))
-    (λ c κs. let e = c .before in ask of32 (s0 e .pre) (w0 e) (cut 37 41) (λ rest. tt))
-    (λ c κs. let e = c .before in ask of32 (s1 e .pre) (w1 e) (cut 41 53) (λ rest. tt))
-    (λ c κs. let e = c .before in ask of32 (s2 e .pre) (w2 e) (cut 53 65) (λ rest. tt))
-    (λ c κs. let e = c .before in ask of32 (s3 e .pre) (w3 e) (cut 65 77) (λ rest. tt))
-    (λ c κs. let e = c .before in ask of32 (s4 e .pre) (w4 e) (cut 77 81) (λ rest. tt))
-    (λ c κs. let e = c .before in ask of32 (s5 e .pre) (w5 e) (cut 81 89) (λ rest. tt))
-    (λ c κs. let e = c .before in ask of32 (s6 e .pre) (w6 e) (cut 89 97) (λ rest. tt))
+    (λ c κs. let e = c .before in ask of32 (s0 e .pre) by-tx64 (w0 e) (cut 37 41) (λ rest. tt) (λ rest. tt))
+    (λ c κs. let e = c .before in ask of32 (s1 e .pre) by-tx64 (w1 e) (cut 41 53) (λ rest. tt) (λ rest. tt))
+    (λ c κs. let e = c .before in ask of32 (s2 e .pre) in-full (w2 e) (cut 53 65) (λ rest. tt) (λ rest. tt))
+    (λ c κs. let e = c .before in ask of32 (s3 e .pre) in-full (w3 e) (cut 65 77) (λ rest. tt) (λ rest. tt))
+    (λ c κs. let e = c .before in ask of32 (s4 e .pre) in-full (w4 e) (cut 77 81) (λ rest. tt) (λ rest. tt))
+    (λ c κs. let e = c .before in ask of32 (s5 e .pre) in-full (w5 e) (cut 81 89) (λ rest. tt) (λ rest. tt))
+    (λ c κs. let e = c .before in ask of32 (s6 e .pre) in-full (w6 e) (cut 89 97) (λ rest. tt) (λ rest. tt))
     (λ c. let e = c .before .before in chain (cut 0 89) (cut 89 97) (s6 e .fits .min) (s6 e .fits .max) (w6 e) (c .last32b .ensures)))

@@ -4,6 +4,7 @@ use lib.Dec.{lit≤}
 use lib.IntN.{ℤ}
 use mathlib.Core.List.{List}
 use Rattle.av1.specs.Sides.{of8}
+use Rattle.dct.proofs.Walk.{by-tx64, in-full}
 use Rattle.lanes.specs.Stages.{cut, Left}
 use Rattle.lanes.proofs.Chain.{ask, half-ready, held, chain}
 use Rattle.lanes.proofs.dct8.Statement.{statement}
@@ -29,6 +30,6 @@ dct8-spec =
     tie.close
     (tie.spec
     (λ c κs. let s = c .before in half-ready (lit≤ tt) (s .fits .min) (s .fits .max) (s .pre))
-    (λ c κs. let e = c .before in ask of8 (s0 e .pre) (w0 e) (cut 4 8) (λ rest. tt))
-    (λ c κs. let e = c .before in ask of8 (s1 e .pre) (w1 e) (cut 8 13) (λ rest. tt))
+    (λ c κs. let e = c .before in ask of8 (s0 e .pre) by-tx64 (w0 e) (cut 4 8) (λ rest. tt) (λ rest. tt))
+    (λ c κs. let e = c .before in ask of8 (s1 e .pre) in-full (w1 e) (cut 8 13) (λ rest. tt) (λ rest. tt))
     (λ c. let e = c .before .before in chain (cut 0 8) (cut 8 13) (s1 e .fits .min) (s1 e .fits .max) (w1 e) (c .last8 .ensures)))

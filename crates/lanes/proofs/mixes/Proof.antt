@@ -23,7 +23,7 @@ use Rattle.lanes.proofs.mixes.Tie as tie
 
 abbrev Inv-loop : tie.InvT-loop
 Inv-loop t₀ l pairs min max far₀ i₀ t seen i =
-    Able (joins (drop i pairs)) (lane t l)
+    Able false (joins (drop i pairs)) (lane t l)
     × (run exact (joins (drop i pairs)) (lane t l) ≡ run exact (joins pairs) (lane t₀ l))
     × ((k : ℕ) → k < 32 → k ≢ l → lane t k ≡ lane t₀ k)
     × (length t ≡ length t₀)
@@ -50,8 +50,8 @@ module _ (c : tie.After-shared-slice-known3 Inv-loop μ-loop) where
   parted : joins (drop (head .loop .i) (s .args .pairs .now)) ≡ this ∷ rest
   parted = joins-at (s .args .pairs .now) (head .loop .i) (c .before .before .loop-test .taken)
 
-  able : Able (this ∷ rest) (lane (head .loop .t) (s .args .l))
-  able = subst (λ (x : List Step). Able x (lane (head .loop .t) (s .args .l))) parted (head .loop .inv .0)
+  able : Able false (this ∷ rest) (lane (head .loop .t) (s .args .l))
+  able = subst (λ (x : List Step). Able false x (lane (head .loop .t) (s .args .l))) parted (head .loop .inv .0)
 
 mix-requires : tie.Need-mix-requires Inv-loop μ-loop
 mix-requires c κs =
@@ -73,7 +73,7 @@ loop-again c =
     let lo = toZ w32 (ofZ w32 (q .args .min)) in
     let hi = toZ w32 (ofZ w32 (q .args .max)) in
     let done = c .mix .ensures .elements in (
-      subst⁻¹ (Able (rest e)) (done .own) (able-next (able e)),
+      subst⁻¹ (Able false (rest e)) (done .own) (able-next (able e)),
       ap (run exact (rest e)) (done .own) ∙ ap (λ (x : List Step). run exact x L) (sym (parted e)) ∙ h .inv .1,
       (λ k l d. done .others k l d ∙ h .inv .2 k l d),
       done .long ∙ h .inv .3,

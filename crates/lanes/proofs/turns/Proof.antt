@@ -20,15 +20,15 @@ use Rattle.lanes.proofs.turns.Statement.{statement}
 use Rattle.lanes.proofs.turns.Tie as tie
 
 abbrev Inv-loop : tie.InvT-loop
-Inv-loop t₀ l pairs angles flip i₀ t i =
-    Able (turns flip (drop i pairs) (drop i angles)) (lane t l)
+Inv-loop t₀ l tx64 pairs angles flip i₀ t i =
+    Able tx64 (turns flip (drop i pairs) (drop i angles)) (lane t l)
     × (run exact (turns flip (drop i pairs) (drop i angles)) (lane t l) ≡ run exact (turns flip pairs angles) (lane t₀ l))
     × ((k : ℕ) → k < 32 → k ≢ l → lane t k ≡ lane t₀ k)
     × (length t ≡ length t₀)
     × (i ≤ length pairs)
 
 abbrev μ-loop : tie.MeasureT-loop
-μ-loop t₀ l pairs angles flip i₀ t i = length pairs - i
+μ-loop t₀ l tx64 pairs angles flip i₀ t i = length pairs - i
 
 module _ (c : tie.After-sin Inv-loop μ-loop) where
   abbrev head : tie.At-loop Inv-loop μ-loop
@@ -50,14 +50,14 @@ module _ (c : tie.After-sin Inv-loop μ-loop) where
   parted : turns (s .args .flip) (drop i (s .args .pairs .now)) (drop i (s .args .angles .now)) ≡ this ∷ rest
   parted = turns-at (s .args .pairs .now) i (s .args .flip) (s .args .angles .now) (c .before .before .before .before .loop-test .taken) (s .pre .even)
 
-  able : Able (this ∷ rest) (lane (head .loop .t) (s .args .l))
-  able = subst (λ (x : List Step). Able x (lane (head .loop .t) (s .args .l))) parted (head .loop .inv .0)
+  able : Able (s .args .tx64) (this ∷ rest) (lane (head .loop .t) (s .args .l))
+  able = subst (λ (x : List Step). Able (s .args .tx64) x (lane (head .loop .t) (s .args .l))) parted (head .loop .inv .0)
 
 turn-requires : tie.Need-turn-requires Inv-loop μ-loop
 turn-requires c κs =
     let e = c .before in
     let q = s e in
-    to2 (Turnable (head e .loop .t) (q .args .l) _ _) (record { sfits = e .before .cos .given }) (record { sfits = e .sin .given })
+    to2 (Turnable (q .args .tx64) (head e .loop .t) (q .args .l) _ _) (record { sfits = e .before .cos .given }) (record { sfits = e .sin .given })
     (able-turn (head e .loop .t) (q .args .l) (head e .loop .inv .3 ∙ q .pre .long) (q .pre .l-in) (able e))
 
 loop-again : tie.Need-loop-again Inv-loop μ-loop
@@ -71,7 +71,7 @@ loop-again c =
     let sin = toZ-ofZ w32 (getD (q .args .angles .now) (i e + 1) (pos 0)) (record { sfits = e .sin .given }) in
     let done = c .turn .ensures in
     let is : lane (c .turn .last .0) (q .args .l) ≡ step exact (this e) (lane (h .t) (q .args .l)) = done .own ∙ (λ k. step exact (B a b (cos k) (sin k) (q .args .flip)) (lane (h .t) (q .args .l))) in (
-      subst⁻¹ (Able (rest e)) is (able-next (able e)),
+      subst⁻¹ (Able (q .args .tx64) (rest e)) is (able-next (able e)),
       ap (run exact (rest e)) is ∙ ap (λ (x : List Step). run exact x (lane (h .t) (q .args .l))) (sym (parted e)) ∙ h .inv .1,
       (λ k l d. done .others k l d ∙ h .inv .2 k l d),
       done .long ∙ h .inv .3,

@@ -45,6 +45,7 @@ quick-columns-requires c κs =
       to2 (λ lo hi. ColumnsPass Dct (p .w) (p .h) lo hi (s .args .t .now)) (s .fits .min) (s .fits .max)
           (subst (λ (k : Kind). ColumnsPass k (p .w) (p .h) (s .args .min) (s .args .max) (s .args .t .now)) (e .enum-told2 .given .1) (s .pre .0)),
       s .pre .1,
+      s .pre .2,
     )
 
 -- after the quick form

@@ -1,10 +1,13 @@
 -- `residual::quick_columns` meets its contract.
 use mathlib.Core.Path.{_≡_, sym, ap, _∙_, subst}
-use mathlib.Core.Bool.{Bool, false}
+use mathlib.Core.Bool.{Bool, true, false}
 use mathlib.Core.List.{List}
-use Prim.Native.Nat.{ℕ, _+_, _*_, _≤_, _<_}
+use Prim.Native.Nat.{ℕ, _+_, _*_, _/_, _≤_, _<_}
+use native.Mathlib.Nat.{le-trans, mul-le-mul-right}
 use native.Mathlib.Omega.{arith}
-use lib.IntN.{ℤ, natAbs}
+use borrow.Author.Tests.{leb-true}
+use lib.Dec.{leb}
+use lib.IntN.{ℤ, pos, natAbs}
 use borrow.Author.Needs.{needs}
 use Rattle.whole.specs.Lists.{at}
 use Rattle.whole.proofs.Counts.{any-none}
@@ -18,12 +21,18 @@ use Rattle.residual.proofs.Quick.{ready, value, unmarked, all-left, gav
 use Rattle.residual.proofs.quick_columns.Statement.{statement}
 use Rattle.residual.proofs.quick_columns.Tie as tie
 
+-- where r is at most half of h, the rows of the lower half are zero
+lower-zero : (s : tie.Start) (y x : ℕ) → leb (s .args .r * 2) (s .args .h) ≡ true → s .args .h / 2 ≤ y → at (s .args .t .now) (y * s .args .w + x) ≡ pos 0
+lower-zero s y x few low =
+    let r-in : s .args .r ≤ y = omega (arith, leb-true (s .args .r * 2) (s .args .h) few, low) in
+    s .pre .2 .zeros (y * s .args .w + x) (le-trans (mul-le-mul-right (s .args .w) r-in) (omega arith))
+
 dct-requires : tie.Need-dct-requires
 dct-requires c κs =
     let e = c .before in
     let s = e .before .before .before in
-    to2 (Ready (len (side (s .args .h))) (s .args .w) (e .lay .last .0)) (s .fits .min) (s .fits .max)
-    (ready (s .pre .0 .is-length) (e .lay .ensures) (s .pre .0 .limited tt) (s .pre .0 .narrow) (λ y x h g. s .pre .0 .small (y * s .args .w + x)))
+    to2 (Ready (leb (s .args .r * 2) (s .args .h)) (len (side (s .args .h))) (s .args .w) (e .lay .last .0)) (s .fits .min) (s .fits .max)
+    (ready (s .pre .0 .is-length) (e .lay .ensures) (leb (s .args .r * 2) (s .args .h)) (s .pre .0 .limited tt) (s .pre .0 .narrow) (λ y x h g. s .pre .0 .small (y * s .args .w + x)) (λ few y x low h g. lower-zero s y x few low))
 
 returns-2 : tie.Need-returns-2
 returns-2 c =
@@ -47,6 +56,7 @@ quick-columns-spec =
     tie.close
     (tie.spec
     (λ c κs. search needs)
+    (λ c. let s = c .before .before .before .before in record { fits = omega (arith, s .pre .2 .some-rows, at-most-32 (s .args .h) (s .pre .0 .is-length)) })
     dct-requires
     (λ c. search needs)
     (λ c. gave-up)

@@ -20,7 +20,7 @@ use Rattle.itx_1d.specs.Inner.{Limited, Ranged}
 use Rattle.residual.specs.Inner.{loaded, row-made, RowsAre}
 use Rattle.residual.proofs.Places.{by-column, h-small}
 use Rattle.residual.proofs.Small.{entering-small}
-use Rattle.residual.proofs.Quick.{halves, ready, value, unmarked, all-left, gave-up, succeeded}
+use Rattle.residual.proofs.Quick.{halves, never, ready, value, unmarked, all-left, gave-up, succeeded}
 use Rattle.residual.proofs.quick_rows.Statement.{statement}
 use Rattle.residual.proofs.quick_rows.Tie as tie
 
@@ -38,8 +38,8 @@ dct-requires c κs =
     let e = c .before in
     let s = e .before .before in
     let p = s .args .plan in
-    to2 (Ready (len (side (p .w))) (s .args .r) (e .load .last .0)) (s .fits .min) (s .fits .max)
-    (ready (s .pre .load .sized .width) (e .load .ensures) (ranged s) (le-trans (s .pre .load .some-rows) (h-small p (s .pre .load .sized))) (small s))
+    to2 (Ready false (len (side (p .w))) (s .args .r) (e .load .last .0)) (s .fits .min) (s .fits .max)
+    (ready (s .pre .load .sized .width) (e .load .ensures) false (ranged s) (le-trans (s .pre .load .some-rows) (h-small p (s .pre .load .sized))) (small s) never)
 
 returns-2 : tie.Need-returns-2
 returns-2 c =

@@ -1,10 +1,11 @@
 -- `residual::resolve` meets its contract.
 use mathlib.Core.Path.{_≡_, refl, ap, _∙_, subst}
-use mathlib.Core.List.{[]}
+use mathlib.Core.List.{List, []}
 use Prim.Native.Nat.{ℕ, _*_, _≤_}
 use native.Mathlib.Nat.{le-trans, mul-le-mul-right}
 use native.Mathlib.Omega.{arith}
 use lib.Dec.{lit≤}
+use lib.IntN.{ℤ}
 use lib.ListN.{length}
 use borrow.Author.Needs.{needs}
 use Rattle.whole.specs.Numbers.{low, high}
@@ -13,7 +14,7 @@ use Rattle.itx_1d.specs.Inner.{Limited}
 use Rattle.bitdepth.specs.Depths.{row-range, column-range}
 use Rattle.residual.specs.Inner.{fill, rounding, RowsBy, ColumnsBy}
 use Rattle.residual.proofs.Ends.{row-reach, column-reach, limited, lo-is, hi-is, as-held, m-is}
-use Rattle.residual.proofs.Fills.{fill-length}
+use Rattle.residual.proofs.Fills.{fill-length, fill-after}
 use Rattle.residual.proofs.Places.{area, w-small}
 use Rattle.residual.proofs.Whole.{rowed-small, for-columns, resolved}
 use Rattle.residual.proofs.resolve.Statement.{statement}
@@ -90,6 +91,10 @@ columns-by-requires c κs =
         long = ap length (b .round .ensures) ∙ fill-length _ _ _ (q .args .r * q .args .plan .w) ∙ rowed a .elements .long;
       },
       record { table = refl; u-long = a .rows-by .ensures .1 },
+      record {
+        some-rows = q .pre .0 .some-rows;
+        zeros = λ i l. ap (λ (t : List ℤ). at t i) (rounded b) ∙ fill-after (a .rows-by .last .1 .0) 0 _ (q .args .r * q .args .plan .w) i (omega arith) ∙ rowed a .elements .rest i l;
+      },
       q .pre .1 .columns,
     )
 
