@@ -1,0 +1,95 @@
+-- The inverse of a crossed residual, crossed, is its coefficients.
+use mathlib.Core.Path.{_≡_, refl, sym, ap, _∙_, subst⁻¹}
+use mathlib.Core.Bool.{false}
+use mathlib.Core.List.{List, [], _∷_, _++_}
+use Prim.Native.Nat.{ℕ, zero, suc, _+_, _*_, _/_, _%_, _≤_, _<_}
+use native.Mathlib.Omega.{arith}
+use lib.Dec.{lit≤}
+use lib.IntN.{ℤ, pos, _*ℤ_, natAbs}
+use lib.ListN.{length, set, drop}
+use Rattle.whole.specs.Numbers.{_>>_}
+use Rattle.whole.specs.Lists.{at, tab}
+use Rattle.whole.proofs.Counts.{tab-at, tab-ext}
+use Rattle.whole.proofs.Sizes.{abs-mul}
+use Rattle.bitdepth.specs.declared.Depth.{Depth}
+use Rattle.residual.specs.Blocks.{way, entered, middle, residual}
+use Rattle.residual.specs.Inner.{wht-plan, ResolvedIn}
+use Rattle.lossless.specs.Writes.{unwht, down, along, coefficients}
+use Rattle.lossless.specs.Inner.{Sixteen, other, crossing, crossed}
+use Rattle.lossless.proofs.Exact.{of-four, of-four-ext, by-four, residual-is, middle-is}
+
+-- ---- the first numbers of a slice
+
+-- f 0, .., f (n - 1) written over the first n, and the rest as it was
+abbrev pub over : ℕ → (ℕ → ℤ) → List ℤ → List ℤ
+over n f c = tab n f ++ drop n c
+
+pub over-more : (n : ℕ) (f : ℕ → ℤ) (c : List ℤ) → n < length c → set (over n f c) n (f n) ≡ over (suc n) f c
+over-more n f [] l = let z : ⊥ = omega arith in absurd z
+over-more zero f (x ∷ c) l = refl
+over-more (suc n) f (x ∷ c) l = ap (λ (t : List ℤ). f 0 ∷ t) (over-more n (λ i. f (suc i)) c (omega arith))
+
+pub over-length : (n : ℕ) (f : ℕ → ℤ) (c : List ℤ) → n ≤ length c → length (over n f c) ≡ length c
+over-length zero f c l = refl
+over-length (suc n) f [] l = let z : ⊥ = omega arith in absurd z
+over-length (suc n) f (x ∷ c) l = ap suc (over-length n (λ i. f (suc i)) c (omega arith))
+
+pub front-at : (n : ℕ) (f : ℕ → ℤ) (c : List ℤ) (i : ℕ) → i < n → at (tab n f ++ c) i ≡ f i
+front-at zero f c i l = let z : ⊥ = omega arith in absurd z
+front-at (suc n) f c zero l = refl
+front-at (suc n) f c (suc i) l = front-at n (λ i. f (suc i)) c i (omega arith)
+
+-- ---- the last two exchanged
+
+pub other-in : (i : ℕ) → other i < 4
+other-in zero = omega arith
+other-in (suc zero) = omega arith
+other-in (suc (suc zero)) = omega arith
+other-in (suc (suc (suc i))) = omega arith
+
+pub crossing-in : (i : ℕ) → crossing i < 16
+crossing-in i = omega (arith, other-in (i / 4), other-in (i % 4))
+
+pub crossed-sixteen : {k n : ℕ} (r : List ℤ) → k * 4 ≤ n → Sixteen k r → Sixteen n (crossed r)
+crossed-sixteen {k} {n} r b s = record {
+  enough = lit≤ tt;
+  small = λ i l.
+      subst⁻¹ (λ (v : ℤ). natAbs v ≤ n) (tab-at 16 (λ i. at r (crossing i) *ℤ pos 4) (pos 0) i l)
+      (omega (arith, abs-mul (at r (crossing i)) (pos 4), s .small (crossing i) (crossing-in i), b));
+}
+
+unwht-at : (o : ℕ → ℤ) (k : ℕ) → k < 4 → at (of-four (λ j. o (other j))) (other k) ≡ at (unwht o) k
+unwht-at o zero l = refl
+unwht-at o (suc zero) l = refl
+unwht-at o (suc (suc zero)) l = refl
+unwht-at o (suc (suc (suc zero))) l = refl
+unwht-at o (suc (suc (suc (suc k)))) l = let z : ⊥ = omega arith in absurd z
+
+-- ---- the inverse of a crossed residual, number by number
+
+module _ (d : Depth) (r : List ℤ) where
+  entered-is : (y x : ℕ) → y < 4 → x < 4 → entered (way (wht-plan 0) d) (crossed r) y x ≡ at r (other x * 4 + other y)
+  entered-is y x k l =
+      let i : (y + x * 4) % 4 ≡ y = omega arith in
+      let j : (y + x * 4) / 4 ≡ x = omega arith in
+      ap (λ (v : ℤ). v >> 2) (tab-at 16 (λ i. at r (crossing i) *ℤ pos 4) (pos 0) (y + x * 4) (omega arith))
+      ∙ by-four (at r (crossing (y + x * 4)))
+      ∙ (λ t. at r (other (j t) * 4 + other (i t)))
+
+  middle-crossed : (y x : ℕ) → y < 4 → x < 4 → middle (way (wht-plan 0) d) (crossed r) 4 y (other x) ≡ down r x (other y)
+  middle-crossed y x k l =
+      middle-is d (crossed r) y (other x) k
+      ∙ ap (λ (s : List ℤ). at s (other x)) (of-four-ext (entered (way (wht-plan 0) d) (crossed r) y) (λ j. at r (other j * 4 + other y)) (λ j b. entered-is y j k b))
+      ∙ unwht-at (λ j. at r (j * 4 + other y)) x l
+
+  residual-crossed : (y x : ℕ) → y < 4 → x < 4 → residual (way (wht-plan 0) d) (crossed r) 4 (other x) (other y) ≡ along r y x
+  residual-crossed y x k l =
+      residual-is d (crossed r) (other x) (other y)
+      ∙ ap (λ (s : List ℤ). at s (other x)) (of-four-ext (λ j. middle (way (wht-plan 0) d) (crossed r) 4 j (other y)) (λ j. down r y (other j)) (λ j b. middle-crossed j y b k))
+      ∙ unwht-at (down r y) x l
+
+  pub crossed-back : (t : List ℤ) → ResolvedIn 16 (wht-plan 0) d (crossed r) 4 t false → crossed t ≡ coefficients r
+  unfolding coefficients
+  crossed-back t m =
+      tab-ext 16 (λ i. at t (crossing i) *ℤ pos 4) (λ i. along r (i % 4) (i / 4) *ℤ pos 4)
+      (λ i l. ap (λ (v : ℤ). v *ℤ pos 4) (m .elements (other (i / 4)) (other (i % 4)) (other-in (i / 4)) (other-in (i % 4)) ∙ residual-crossed (i % 4) (i / 4) (omega arith) (omega arith)))
