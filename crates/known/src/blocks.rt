@@ -1,6 +1,5 @@
 // The two-dimensional calls: document 01, "Known results", and both sides of numbers 1 to 10.
 ghost use Prim.Native.Nat.{_<_};
-use crate::show;
 use itx::Answer;
 use itx::Refusal;
 use strided::ByteStride;
