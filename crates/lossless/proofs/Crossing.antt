@@ -1,14 +1,13 @@
 -- The inverse of a crossed residual, crossed, is its coefficients.
-use mathlib.Core.Path.{_≡_, refl, sym, ap, _∙_, subst⁻¹}
+use mathlib.Core.Path.{_≡_, refl, ap, _∙_, subst⁻¹}
 use mathlib.Core.Bool.{false}
-use mathlib.Core.List.{List, [], _∷_, _++_}
+use mathlib.Core.List.{List}
 use Prim.Native.Nat.{ℕ, zero, suc, _+_, _*_, _/_, _%_, _≤_, _<_}
 use native.Mathlib.Omega.{arith}
 use lib.Dec.{lit≤}
 use lib.IntN.{ℤ, pos, _*ℤ_, natAbs}
-use lib.ListN.{length, set, drop}
 use Rattle.whole.specs.Numbers.{_>>_}
-use Rattle.whole.specs.Lists.{at, tab}
+use Rattle.whole.specs.Lists.{at}
 use Rattle.whole.proofs.Counts.{tab-at, tab-ext}
 use Rattle.whole.proofs.Sizes.{abs-mul}
 use Rattle.bitdepth.specs.declared.Depth.{Depth}
@@ -17,27 +16,6 @@ use Rattle.residual.specs.Inner.{wht-plan, ResolvedIn}
 use Rattle.lossless.specs.Writes.{unwht, down, along, coefficients}
 use Rattle.lossless.specs.Inner.{Sixteen, other, crossing, crossed}
 use Rattle.lossless.proofs.Exact.{of-four, of-four-ext, by-four, residual-is, middle-is}
-
--- ---- the first numbers of a slice
-
--- f 0, .., f (n - 1) written over the first n, and the rest as it was
-abbrev pub over : ℕ → (ℕ → ℤ) → List ℤ → List ℤ
-over n f c = tab n f ++ drop n c
-
-pub over-more : (n : ℕ) (f : ℕ → ℤ) (c : List ℤ) → n < length c → set (over n f c) n (f n) ≡ over (suc n) f c
-over-more n f [] l = let z : ⊥ = omega arith in absurd z
-over-more zero f (x ∷ c) l = refl
-over-more (suc n) f (x ∷ c) l = ap (λ (t : List ℤ). f 0 ∷ t) (over-more n (λ i. f (suc i)) c (omega arith))
-
-pub over-length : (n : ℕ) (f : ℕ → ℤ) (c : List ℤ) → n ≤ length c → length (over n f c) ≡ length c
-over-length zero f c l = refl
-over-length (suc n) f [] l = let z : ⊥ = omega arith in absurd z
-over-length (suc n) f (x ∷ c) l = ap suc (over-length n (λ i. f (suc i)) c (omega arith))
-
-pub front-at : (n : ℕ) (f : ℕ → ℤ) (c : List ℤ) (i : ℕ) → i < n → at (tab n f ++ c) i ≡ f i
-front-at zero f c i l = let z : ⊥ = omega arith in absurd z
-front-at (suc n) f c zero l = refl
-front-at (suc n) f c (suc i) l = front-at n (λ i. f (suc i)) c i (omega arith)
 
 -- ---- the last two exchanged
 

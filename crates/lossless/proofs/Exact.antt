@@ -11,7 +11,7 @@ use Rattle.whole.specs.Numbers.{_>>_, low, high, outside}
 use Rattle.whole.specs.Lists.{at, tab}
 use Rattle.whole.proofs.Counts.{tab-at}
 use Rattle.whole.proofs.Floors.{floor-one}
-use Rattle.whole.proofs.Machine.{E, var, lit, _⊕_, _⊝_, _⊛_, bound, ring}
+use Rattle.whole.proofs.Machine.{var, lit, _⊕_, _⊝_, _⊛_, bound, ring}
 use Rattle.whole.proofs.Parts.{rep-self, rep-mul, abs-parts}
 use Rattle.whole.proofs.Ranges.{shift-floor, not-outside}
 use Rattle.av1.specs.Sides.{of4}
@@ -59,7 +59,7 @@ of-four f = wht (f 0) (f 1) (f 2) (f 3)
 pub of-four-ext : (f g : ℕ → ℤ) → ((k : ℕ) → k < 4 → f k ≡ g k) → of-four f ≡ of-four g
 of-four-ext f g h = λ i. wht (h 0 (lit≤ tt) i) (h 1 (lit≤ tt) i) (h 2 (lit≤ tt) i) (h 3 (lit≤ tt) i)
 
-unwht-ext : (f g : ℕ → ℤ) → ((k : ℕ) → k < 4 → f k ≡ g k) → unwht f ≡ unwht g
+pub unwht-ext : (f g : ℕ → ℤ) → ((k : ℕ) → k < 4 → f k ≡ g k) → unwht f ≡ unwht g
 unwht-ext f g h = λ i. unwht (at (h 0 (lit≤ tt) i ∷ h 1 (lit≤ tt) i ∷ h 2 (lit≤ tt) i ∷ h 3 (lit≤ tt) i ∷ []))
 
 -- forth and back

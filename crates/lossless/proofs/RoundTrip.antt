@@ -1,5 +1,5 @@
 -- For the person who uses the writer: the plain call takes what it wrote, and makes p + r of every prediction p.
-use mathlib.Core.Path.{_≡_, refl, sym, ap, _∙_, subst, subst⁻¹}
+use mathlib.Core.Path.{_≡_, refl, sym, ap, _∙_, subst}
 use mathlib.Core.Bool.{Bool, true, false, cond, _||_}
 use mathlib.Core.List.{List, _++_}
 use mathlib.Core.Option.{Option, none, some}
@@ -25,15 +25,15 @@ use Rattle.residual.specs.Blocks.{way, entered, row, middle, column, residual, 
 use Rattle.residual.specs.Inner.{wht-plan}
 use Rattle.pixels.specs.Adds.{add-pixel}
 use Rattle.itx_1d.specs.Passes.{pass}
-use Rattle.itx_1d.specs.Calls.{Answer, Outcome, acceptance, outcome-of}
+use Rattle.itx_1d.specs.Calls.{Answer, acceptance}
 use Rattle.itx.specs.Answers.{block}
-use Rattle.itx.specs.Calls.{Block, Call, plain, outcome, short}
+use Rattle.itx.specs.Calls.{Block, plain, outcome, short}
 use Rattle.itx.specs.Demands.{Accepted}
 use Rattle.itx.proofs.Outcomes.{added, answer-is, pixel-rule}
 use Rattle.lossless.specs.declared.Written.the-variants.{Done}
-use Rattle.lossless.specs.Writes.{along, coefficients, out-of-bounds, checks, written, Meets}
-use Rattle.lossless.proofs.Exact.{of-four, of-four-ext, residual-is, middle-is, comes-back, multiple-of-four, in-row-range}
-use Rattle.lossless.proofs.Crossing.{over-length, front-at}
+use Rattle.lossless.specs.Writes.{along, coefficients, out-of-bounds, checks, left, written, Meets}
+use Rattle.lossless.proofs.Exact.{of-four-ext, residual-is, middle-is, comes-back, multiple-of-four, in-row-range}
+use Rattle.lossless.proofs.Over.{over-length, over-front}
 
 -- ---- a block that holds written coefficients
 
@@ -112,10 +112,7 @@ module _ (r c : List ℤ) (n : ℕ) where
       let beyond = first 16 (λ i. out-of-bounds d (at r i)) in
       numbered-unless (ltb (length r) 16 || ltb (length c) 16) 6 (unless-at beyond 23 (accept tt)) (omega arith) (numbered-at beyond 23 (accept tt) (omega arith) tt))
 
-  abbrev left : Check (Unit {0}) → Outcome
-  left = outcome-of c (record { answer = acceptance false; elements = coefficients r ++ drop 16 c })
-
-  done : (v : Check (Unit {0})) → Numbered v → 0 ≡ left v .answer .number → v ≡ accept tt
+  done : (v : Check (Unit {0})) → Numbered v → 0 ≡ left r c v .answer .number → v ≡ accept tt
   done (accept tt) h e = refl
   done (refuse m i) h e = let f : ⊥ = omega arith in absurd f
 
@@ -127,7 +124,7 @@ module _ (r c c′ : List ℤ) (n : ℕ) (w : Meets (written r c n) Done c′) (
 
   elements-are : c′ ≡ coefficients r ++ drop 16 c
   unfolding written
-  elements-are = w .elements ∙ ap (λ (v : Check (Unit {0})). left r c n v .elements) taken
+  elements-are = w .elements ∙ ap (λ (v : Check (Unit {0})). left r c v .elements) taken
 
   -- what the checks have found out
   abbrev Known : Depth → Type 0
@@ -144,7 +141,7 @@ module _ (r c c′ : List ℤ) (n : ℕ) (w : Meets (written r c n) Done c′) (
 
   held : (i : ℕ) → i < 16 → at c′ i ≡ at (coefficients r) i
   unfolding coefficients
-  held i l = ap (λ (s : List ℤ). at s i) elements-are ∙ front-at 16 (λ i. along r (i % 4) (i / 4) *ℤ pos 4) (drop 16 c) i l ∙ sym (multiple-of-four r i l)
+  held i l = ap (λ (s : List ℤ). at s i) elements-are ∙ over-front 16 (λ i. along r (i % 4) (i / 4) *ℤ pos 4) (drop 16 c) i l ∙ sym (multiple-of-four r i l)
 
   long : length c′ ≡ length c
   unfolding coefficients

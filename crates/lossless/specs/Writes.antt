@@ -47,8 +47,11 @@ checks r c n =
     (accept tt)))
 
 -- the coefficients stand first in the buffer, and what lies beyond stays; "nothing is written on a refusal"
+abbrev pub left : List ℤ → List ℤ → Check (Unit {0}) → Outcome
+left r c = outcome-of c (record { answer = acceptance false; elements = coefficients r ++ drop 16 c })
+
 unfoldable pub written : List ℤ → List ℤ → ℕ → Outcome
-written r c n = outcome-of c (record { answer = acceptance false; elements = coefficients r ++ drop 16 c }) (checks r c n)
+written r c n = left r c (checks r c n)
 
 -- what the writer's answers say, in the table's numbers
 abbrev pub answer-of : Written → Answer

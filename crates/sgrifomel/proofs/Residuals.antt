@@ -8,7 +8,7 @@ use lib.Dec.{ltb}
 use lib.IntN.{ℤ}
 use lib.ListN.{length}
 use Rattle.whole.specs.Lists.{at, first}
-use Rattle.whole.specs.Checks.{Check, accept, refuse, unless, unless-at}
+use Rattle.whole.specs.Checks.{accept, unless, unless-at}
 use Rattle.bitdepth.specs.declared.Depth.{Depth}
 use Rattle.bitdepth.specs.Depths.{depth}
 use Rattle.lossless.specs.Writes.{out-of-bounds, checks, written}

@@ -1,7 +1,7 @@
 -- `lossless::cross` meets its contract.
 use mathlib.Core.Path.{_≡_, refl, sym, ap, _∙_, subst⁻¹}
 use mathlib.Core.List.{List, [], _∷_}
-use Prim.Native.Nat.{ℕ, _≤_, _<_, _+_, _-_, _*_}
+use Prim.Native.Nat.{ℕ, _≤_, _<_, _-_, _*_}
 use native.Mathlib.Numerals.{add-one}
 use native.Mathlib.Omega.{arith}
 use lib.IntN.{ℤ, pos, _*ℤ_}
@@ -9,9 +9,10 @@ use lib.ListN.{length, set, getD}
 use mir.Syntax.{w32}
 use Rattle.whole.specs.Lists.{at, tab}
 use Rattle.whole.proofs.Counts.{tab-at}
-use Rattle.whole.proofs.Machine.{E, var, lit, _⊛_, Within, need, reads}
-use Rattle.lossless.specs.Inner.{crossing, crossed}
-use Rattle.lossless.proofs.Crossing.{over, over-more, over-length, crossing-in}
+use Rattle.whole.proofs.Machine.{var, lit, _⊛_, Within, need, reads}
+use Rattle.lossless.specs.Inner.{crossing}
+use Rattle.lossless.proofs.Over.{over, over-more, over-length}
+use Rattle.lossless.proofs.Crossing.{crossing-in}
 use Rattle.lossless.proofs.cross.Statement.{statement}
 use Rattle.lossless.proofs.cross.Tie as tie
 

@@ -1,14 +1,14 @@
 -- `lossless::fwd_wht4x4` meets its contract.
 use mathlib.Core.Path.{_≡_, refl, sym, ap, _∙_, subst⁻¹}
 use mathlib.Core.Bool.{Bool, true, false, _||_}
-use mathlib.Core.List.{List, _++_}
+use mathlib.Core.List.{List}
 use mathlib.Core.Option.{Option, none}
 use Prim.Native.Nat.{ℕ, _≤_}
 use borrow.Author.Needs.{needs}
 use borrow.Author.Tests.{ltb-false}
 use lib.Dec.{ltb, lit≤}
 use lib.IntN.{ℤ, pos, negℤ, _-ℤ_, natAbs}
-use lib.ListN.{length, drop}
+use lib.ListN.{length}
 use mir.Syntax.{w32}
 use mir.Val.{SFits, toZ, ofZ}
 use Rattle.whole.specs.Numbers.{outside}
@@ -22,9 +22,8 @@ use Rattle.bitdepth.specs.declared.Depth.the-variants.{Eight, Ten, Twelve}
 use Rattle.bitdepth.specs.Depths.{depth, check-of, maximum}
 use Rattle.coefs.specs.declared.Found.{Found}
 use Rattle.coefs.specs.Coefs.{found}
-use Rattle.itx_1d.specs.Calls.{Outcome, acceptance, outcome-of}
 use Rattle.lossless.specs.declared.Written.{Written}
-use Rattle.lossless.specs.Writes.{coefficients, out-of-bounds, checks, written, answer-of, Meets}
+use Rattle.lossless.specs.Writes.{out-of-bounds, checks, left, written, answer-of, Meets}
 use Rattle.lossless.specs.Inner.{Sixteen}
 use Rattle.lossless.proofs.fwd_wht4x4.Statement.{statement}
 use Rattle.lossless.proofs.fwd_wht4x4.Tie as tie
@@ -41,12 +40,9 @@ module _ (s : tie.Start) where
   abbrev short : Bool
   short = ltb (length r) 16 || ltb (length c) 16
 
-  abbrev left : Check (Unit {0}) → Outcome
-  left = outcome-of c (record { answer = acceptance false; elements = coefficients r ++ drop 16 c })
-
-  meets : (w : Written) (c′ : List ℤ) (v : Check (Unit {0})) → checks r c (s .args .depth) ≡ v → answer-of w ≡ left v .answer → c′ ≡ left v .elements → Meets (written r c (s .args .depth)) w c′
+  meets : (w : Written) (c′ : List ℤ) (v : Check (Unit {0})) → checks r c (s .args .depth) ≡ v → answer-of w ≡ left r c v .answer → c′ ≡ left r c v .elements → Meets (written r c (s .args .depth)) w c′
   unfolding written
-  meets w c′ v e a b = record { answer = a ∙ ap (λ (v : Check (Unit {0})). left v .answer) (sym e); elements = b ∙ ap (λ (v : Check (Unit {0})). left v .elements) (sym e) }
+  meets w c′ v e a b = record { answer = a ∙ ap (λ (v : Check (Unit {0})). left r c v .answer) (sym e); elements = b ∙ ap (λ (v : Check (Unit {0})). left r c v .elements) (sym e) }
 
   abbrev later : Depth → Check (Unit {0})
   later d = unless short 6 (unless-at (first 16 (λ i. out-of-bounds d (at r i))) 23 (accept tt))
