@@ -12,7 +12,7 @@ use Rattle.whole.specs.Lists.{at, first}
 use Rattle.whole.specs.Checks.{Check, accept, refuse, then, unless, unless-at}
 use Rattle.whole.proofs.Counts.{tab-ext, first-ext}
 use Rattle.bitdepth.specs.Depths.{depth}
-use Rattle.lossless.specs.Writes.{down, along, coefficients, out-of-bounds, checks, left, written}
+use Rattle.lossless.specs.Writes.{down, along, coefficient, coefficients, out-of-bounds, checks, left, written}
 use Rattle.lossless.proofs.Exact.{unwht-ext}
 use Rattle.lossless.proofs.Over.{over-beyond}
 
@@ -22,7 +22,7 @@ unfolding written coefficients
 beyond-stays r c n i l k = go (checks r c n)
   where
     go : (v : Check (Unit {0})) → at (left r c v .elements) i ≡ at c i
-    go (accept u) = over-beyond 16 (λ i. along r (i % 4) (i / 4) *ℤ pos 4) c i l k
+    go (accept u) = over-beyond 16 (coefficient r) c i l k
     go (refuse m j) = refl
 
 abbrev short : List ℤ → List ℤ → Bool
@@ -38,7 +38,7 @@ module _ (r r′ : List ℤ) (same : (i : ℕ) → i < 16 → at r i ≡ at r′
 
   pub same-coefficients : coefficients r ≡ coefficients r′
   unfolding coefficients
-  same-coefficients = tab-ext 16 (λ i. along r (i % 4) (i / 4) *ℤ pos 4) (λ i. along r′ (i % 4) (i / 4) *ℤ pos 4) (λ i l. ap (λ (v : ℤ). v *ℤ pos 4) (along-same (i % 4) (i / 4)))
+  same-coefficients = tab-ext 16 (coefficient r) (coefficient r′) (λ i l. ap (λ (v : ℤ). v *ℤ pos 4) (along-same (i % 4) (i / 4)))
 
   module _ (c c′ : List ℤ) (n : ℕ) (long : 16 ≤ length r) (long′ : 16 ≤ length r′) (room : 16 ≤ length c) (room′ : 16 ≤ length c′) where
     same-checks : checks r c n ≡ checks r′ c′ n

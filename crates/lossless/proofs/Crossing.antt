@@ -13,7 +13,7 @@ use Rattle.whole.proofs.Sizes.{abs-mul}
 use Rattle.bitdepth.specs.declared.Depth.{Depth}
 use Rattle.residual.specs.Blocks.{way, entered, middle, residual}
 use Rattle.residual.specs.Inner.{wht-plan, ResolvedIn}
-use Rattle.lossless.specs.Writes.{unwht, down, along, coefficients}
+use Rattle.lossless.specs.Writes.{unwht, down, along, coefficient, coefficients}
 use Rattle.lossless.specs.Inner.{Sixteen, other, crossing, crossed}
 use Rattle.lossless.proofs.Exact.{of-four, of-four-ext, by-four, residual-is, middle-is}
 
@@ -69,5 +69,5 @@ module _ (d : Depth) (r : List ℤ) where
   pub crossed-back : (t : List ℤ) → ResolvedIn 16 (wht-plan 0) d (crossed r) 4 t false → crossed t ≡ coefficients r
   unfolding coefficients
   crossed-back t m =
-      tab-ext 16 (λ i. at t (crossing i) *ℤ pos 4) (λ i. along r (i % 4) (i / 4) *ℤ pos 4)
+      tab-ext 16 (λ i. at t (crossing i) *ℤ pos 4) (coefficient r)
       (λ i l. ap (λ (v : ℤ). v *ℤ pos 4) (m .elements (other (i / 4)) (other (i % 4)) (other-in (i / 4)) (other-in (i % 4)) ∙ residual-crossed (i % 4) (i / 4) (omega arith) (omega arith)))

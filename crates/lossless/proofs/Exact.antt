@@ -23,7 +23,7 @@ use Rattle.bitdepth.specs.declared.Depth.the-variants.{Eight, Ten, Twelve}
 use Rattle.bitdepth.specs.Depths.{row-range, maximum}
 use Rattle.residual.specs.Blocks.{Way, way, entered, middle, residual}
 use Rattle.residual.specs.Inner.{wht-plan}
-use Rattle.lossless.specs.Writes.{unwht, down, along, coefficients}
+use Rattle.lossless.specs.Writes.{unwht, down, along, coefficient, coefficients}
 
 -- ---- four numbers
 
@@ -84,12 +84,12 @@ unfolding coefficients
 coefficient-at r y x k l =
     let i : (y + x * 4) % 4 ≡ y = omega arith in
     let j : (y + x * 4) / 4 ≡ x = omega arith in
-    tab-at 16 (λ i. along r (i % 4) (i / 4) *ℤ pos 4) (pos 0) (y + x * 4) (omega arith) ∙ (λ t. along r (i t) (j t) *ℤ pos 4)
+    tab-at 16 (coefficient r) (pos 0) (y + x * 4) (omega arith) ∙ (λ t. along r (i t) (j t) *ℤ pos 4)
 
 -- "a multiple of four"
 pub multiple-of-four : (r : List ℤ) (i : ℕ) → i < 16 → at (coefficients r) i ≡ along r (i % 4) (i / 4) *ℤ pos 4
 unfolding coefficients
-multiple-of-four r i l = tab-at 16 (λ i. along r (i % 4) (i / 4) *ℤ pos 4) (pos 0) i l
+multiple-of-four r i l = tab-at 16 (coefficient r) (pos 0) i l
 
 module _ (d : Depth) where
   abbrev 𝓦 : Way

@@ -3,12 +3,12 @@ use mathlib.Core.Path.{_≡_, refl, sym, ap, _∙_, subst}
 use mathlib.Core.Bool.{Bool, true, false, cond, _||_}
 use mathlib.Core.List.{List, _++_}
 use mathlib.Core.Option.{Option, none, some}
-use Prim.Native.Nat.{ℕ, zero, suc, _+_, _*_, _/_, _%_, _≤_, _<_}
+use Prim.Native.Nat.{ℕ, zero, suc, _+_, _*_, _≤_, _<_}
 use native.Mathlib.Nat.{le-refl}
 use native.Mathlib.Omega.{arith}
 use borrow.Author.Tests.{ltb-false, le-ltb}
 use lib.Dec.{eqb, ltb}
-use lib.IntN.{ℤ, pos, negsuc, negℤ, _+ℤ_, _*ℤ_, natAbs}
+use lib.IntN.{ℤ, pos, negsuc, negℤ, _+ℤ_, natAbs}
 use lib.ListN.{length, drop, getD}
 use lib.Signed.{ltZ}
 use Rattle.whole.specs.Numbers.{_>>_, outside, low, high}
@@ -31,7 +31,7 @@ use Rattle.itx.specs.Calls.{Block, plain, outcome, short}
 use Rattle.itx.specs.Demands.{Accepted}
 use Rattle.itx.proofs.Outcomes.{added, answer-is, pixel-rule}
 use Rattle.lossless.specs.declared.Written.the-variants.{Done}
-use Rattle.lossless.specs.Writes.{along, coefficients, out-of-bounds, checks, left, written, Meets}
+use Rattle.lossless.specs.Writes.{coefficient, coefficients, out-of-bounds, checks, left, written, Meets}
 use Rattle.lossless.proofs.Exact.{of-four-ext, residual-is, middle-is, comes-back, multiple-of-four, in-row-range}
 use Rattle.lossless.proofs.Over.{over-length, over-front}
 
@@ -141,11 +141,11 @@ module _ (r c c′ : List ℤ) (n : ℕ) (w : Meets (written r c n) Done c′) (
 
   held : (i : ℕ) → i < 16 → at c′ i ≡ at (coefficients r) i
   unfolding coefficients
-  held i l = ap (λ (s : List ℤ). at s i) elements-are ∙ over-front 16 (λ i. along r (i % 4) (i / 4) *ℤ pos 4) (drop 16 c) i l ∙ sym (multiple-of-four r i l)
+  held i l = ap (λ (s : List ℤ). at s i) elements-are ∙ over-front 16 (coefficient r) (drop 16 c) i l ∙ sym (multiple-of-four r i l)
 
   long : length c′ ≡ length c
   unfolding coefficients
-  long = ap length elements-are ∙ over-length 16 (λ i. along r (i % 4) (i / 4) *ℤ pos 4) c (known .0)
+  long = ap length elements-are ∙ over-length 16 (coefficient r) c (known .0)
 
   -- a block of type 16 with these coefficients, on any plane that holds it, with any eob from 0 up
   module _ (plane : Plane) (stride : bad-stride 4 (plane .stride) ≡ false) (inside : row-outside 4 4 plane ≡ false) (e : ℕ) where

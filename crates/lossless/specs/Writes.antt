@@ -30,9 +30,13 @@ module _ (r : List ℤ) where
   abbrev pub along : ℕ → ℕ → ℤ
   along y x = at (unwht (down y)) x
 
-  -- "the sixteen WHT_WHT coefficients in buffer order": that of row y, column x at y + x·4; the inverse begins with a shift right by 2
+  -- "in buffer order": that of row y, column x stands at y + x·4; four times, since the inverse begins with a shift right by 2
+  abbrev pub coefficient : ℕ → ℤ
+  coefficient i = along (i % 4) (i / 4) *ℤ pos 4
+
+  -- "the sixteen WHT_WHT coefficients"
   unfoldable pub coefficients : List ℤ
-  coefficients = tab 16 (λ i. along (i % 4) (i / 4) *ℤ pos 4)
+  coefficients = tab 16 coefficient
 
 -- "every value from -maximum to maximum of the depth"
 abbrev pub out-of-bounds : Depth → ℤ → Bool
