@@ -11,22 +11,20 @@ use lib.ListN.{drop}
 use borrow.Author.Needs.{needs}
 use Rattle.whole.specs.Lists.{at}
 use Rattle.bitdepth.specs.declared.Depth.the-variants.{Eight}
-use Rattle.residual.specs.Inner.{Sized, wht-plan, ResolvedIn}
+use Rattle.residual.specs.Inner.{wht-plan, ResolvedIn}
+use Rattle.itx.proofs.Accepted.{sized}
 use Rattle.itx.proofs.Painting.{zeros-at}
 use Rattle.lossless.specs.Inner.{Sixteen, crossed}
 use Rattle.lossless.proofs.Crossing.{crossed-sixteen, crossed-back}
 use Rattle.lossless.proofs.encode.Statement.{statement}
 use Rattle.lossless.proofs.encode.Tie as tie
 
-sized : Sized (wht-plan 0)
-sized = record { width = refl; height = refl; shift-small = lit≤ tt; row-length = refl; column-length = refl; wht-both = λ e. refl }
-
 resolve-wht-requires : tie.Need-resolve-wht-requires
 resolve-wht-requires c κs =
     let a = c .before .before .before in
     let s = a .before .before in
     let x = subst⁻¹ (Sixteen 524288) (a .cross .ensures) (crossed-sixteen (s .args .residual .now) (lit≤ tt) (s .pre .0)) in
-    record { sized = sized; coefs = record { count = x .enough; small = x .small }; some-rows = lit≤ tt; empty = zeros-at 16; long = refl }
+    record { sized = sized 4 4 16 (wht-plan 0) refl; coefs = record { count = x .enough; small = x .small }; some-rows = lit≤ tt; empty = zeros-at 16; long = refl }
 
 -- after the inverse
 module _ (c : tie.After-resolve-wht) where
