@@ -103,6 +103,17 @@ uint64_t sgrifomel_spec_inv_txfm_add(uint16_t *dst, size_t dst_len, uint32_t off
 uint64_t sgrifomel_spec_inv_txfm_add_live(uint16_t *dst, size_t dst_len, uint32_t offset, int32_t stride, int32_t *coeff,
                                           size_t coeff_len, size_t r, size_t w, size_t h, size_t txtp, size_t depth);
 
+/* The lossless writer: from a 4x4 residual, row by row, the sixteen coefficients of WHT_WHT in buffer order, that of row y,
+   column x at coeff[y + x * 4]. sgrifomel_inv_txfm_add with SGRIFOMEL_WHT_WHT, any eob from 0 up and the same depth adds
+   exactly that residual. Refusals, in this order: 3; 6 when either buffer is shorter than sixteen; 23, which carries the
+   place of the first offender, counted from 0. Mark 0. What lies beyond the sixteen is not looked at and stays. The buffers
+   may not overlap, and nothing else may touch either during the call. */
+enum {
+    SGRIFOMEL_RESIDUAL = 23 /* residual outside -maximum..maximum, which is 255, 1023 or 4095 by the depth */
+};
+
+uint64_t sgrifomel_fwd_wht4x4(const int32_t *residual, size_t residual_len, int32_t *coeff, size_t coeff_len, size_t depth);
+
 #ifdef __cplusplus
 }
 #endif

@@ -58,3 +58,13 @@ extern "C" {
         depth: usize,
     ) -> u64;
 }
+
+extern "C" {
+    pub fn sgrifomel_fwd_wht4x4(
+        residual: *const i32,
+        residual_len: usize,
+        coeff: *mut i32,
+        coeff_len: usize,
+        depth: usize,
+    ) -> u64;
+}

@@ -1,6 +1,5 @@
 // The two-dimensional calls: document 01, "Known results", four blocks of request E9's types, both sides of numbers 1 to 10, and blocks by E8's engine.
 ghost use Prim.Native.Nat.{_<_, _≤_};
-use crate::show;
 use itx::Answer;
 use itx::Refusal;
 use strided::ByteStride;

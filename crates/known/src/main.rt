@@ -2,7 +2,6 @@
 // mark and what it left.
 mod blocks;
 mod passes;
-mod show;
 
 fn main() {
     passes::all();

@@ -4,6 +4,7 @@ ghost use mathlib.Core.Path.{_≡_};
 ghost use Prim.Native.Nat.{_*_, _≤_, _<_};
 ghost use lib.ListN.{length};
 use words::bits;
+use words::load;
 use words::put_word;
 use words::signed;
 use words::word_at;
@@ -77,15 +78,6 @@ fn elements() -> [i32; 1024]
     ensures { λ r. ⌜ 1024 ≡ length r ⌝ }
 {
     [0i32; 1024]
-}
-
-fn load(b: &[u8], c: &mut [i32])
-    requires { ⌜ 4 * length (now c) ≤ length (now b) ⌝ }
-{
-    for i in 0..c.len() {
-        let v = signed(word_at(b, 4 * i));
-        c[i] = v;
-    }
 }
 
 fn store(c: &[i32], b: &mut [u8])

@@ -30,7 +30,7 @@ small-cond : {A : Type 0} (t : Bool) (k l : Check A) → Small k → Small l →
 small-cond true k l h g = h
 small-cond false k l h g = g
 
-small-then : {A C : Type 0} (k : Check A) (f : A → Check C) → Small k → ((a : A) → k ≡ accept a → Small (f a)) → Small (then k f)
+pub small-then : {A C : Type 0} (k : Check A) (f : A → Check C) → Small k → ((a : A) → k ≡ accept a → Small (f a)) → Small (then k f)
 small-then (accept a) f h g = g a refl
 small-then (refuse number i) f h g = h
 
@@ -44,7 +44,7 @@ small-kinds w h type = by-types (λ t. true) Small w h type (omega arith) (λ t 
 small-plan : (w h type : ℕ) → Small (plan w h type)
 small-plan w h type = small-then (shift-of w h) (with-shift w h type) (small-shift w h) (λ s e. small-then (kinds-of w h type) (with-kinds w h s) (small-kinds w h type) (λ k f. tt))
 
-small-depth : (n : ℕ) → Small (depth n)
+pub small-depth : (n : ℕ) → Small (depth n)
 small-depth n = small-cond (eqb n 8) _ _ tt (small-cond (eqb n 10) _ _ tt (small-cond (eqb n 12) _ _ tt (omega arith)))
 
 module _ (call : Call) (b : Block) where

@@ -52,7 +52,7 @@ small-checks n looked c s lo hi l =
     tt))
 
 -- and so is that of the outcome
-small-outcome : (c : List ℤ) (o : Outcome) (k : Check (Unit {0})) → o .answer .place ≡ 0 → Small k → outcome-of c o k .answer .place < 1024
+pub small-outcome : (c : List ℤ) (o : Outcome) (k : Check (Unit {0})) → o .answer .place ≡ 0 → Small k → outcome-of c o k .answer .place < 1024
 small-outcome c o (accept u) e h = omega arith
 small-outcome c o (refuse number i) e h = h
 

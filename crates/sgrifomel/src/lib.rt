@@ -10,9 +10,11 @@ ghost use Rattle.itx.specs.Spec.{spec-outcome};
 ghost use Rattle.itx.specs.Answers as Answers;
 ghost use Rattle.itx.specs.Answers.{block};
 ghost use Rattle.sgrifomel.specs.Words.{packed, Packs, PacksBlock};
+ghost use Rattle.lossless.specs.Writes as Writes;
 use itx::Answer;
 use itx::Refusal;
 use itx_1d::Pass;
+use lossless::Written;
 use strided::ByteStride;
 
 // No call has a place past the 1,024 numbers of a block, so a word holds it.
@@ -277,4 +279,23 @@ pub extern "C" fn sgrifomel_spec_inv_txfm_add_live(
 {
     let bytes = ByteStride(stride);
     pack_answer(itx::spec_inv_txfm_add_live(dst, offset, bytes, coeff, r, w, h, txtp, depth))
+}
+
+fn pack_written(written: Written) -> u64
+    requires { ⌜ Writes.answer-of written .place < 1024 ⌝ }
+    ensures { λ r. ⌜ r ≡ packed (Writes.answer-of written) ⌝ }
+{
+    match written {
+        Written::Done => 0,
+        Written::NoDepth => 3,
+        Written::ShortBuffer => 6,
+        Written::OutOfBounds(i) => 23 + 65536 * (i as u64),
+    }
+}
+
+#[no_mangle]
+pub extern "C" fn sgrifomel_fwd_wht4x4(residual: &[i32], coeff: &mut [i32], depth: usize) -> u64
+    ensures { λ r. ⌜ Packs (Writes.written (now (residual .entry)) (now (coeff .entry)) depth) r (now (coeff .exit)) ⌝ }
+{
+    pack_written(lossless::fwd_wht4x4(residual, coeff, depth))
 }

@@ -1,6 +1,6 @@
 // Words of 32 bits, low byte first, as tools/oracle writes them, and the signed numbers that they hold.
 ghost use mathlib.Core.Path.{_≡_};
-ghost use Prim.Native.Nat.{_+_, _≤_, _<_};
+ghost use Prim.Native.Nat.{_+_, _*_, _≤_, _<_};
 ghost use lib.ListN.{length};
 ghost use lib.Seq.{sets};
 ghost use mir.Syntax.{w32};
@@ -55,5 +55,15 @@ pub fn bits(v: i32) -> u32
         4294967295 - (n as u32)
     } else {
         v as u32
+    }
+}
+
+// The numbers of a slice, a word for each.
+pub fn load(b: &[u8], c: &mut [i32])
+    requires { ⌜ 4 * length (now c) ≤ length (now b) ⌝ }
+{
+    for i in 0..c.len() {
+        let v = signed(word_at(b, 4 * i));
+        c[i] = v;
     }
 }

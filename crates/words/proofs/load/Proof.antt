@@ -1,11 +1,11 @@
--- `replay_1d::load` is safe and ends.
+-- `words::load` is safe and ends.
 use mathlib.Core.Path.{_≡_}
 use Prim.Native.Nat.{_-_}
 use native.Mathlib.Omega.{arith}
 use lib.ListN.{length, length-set}
 use borrow.Author.Needs.{needs}
-use Rattle.replay_1d.proofs.load.Statement.{statement}
-use Rattle.replay_1d.proofs.load.Tie as tie
+use Rattle.words.proofs.load.Statement.{statement}
+use Rattle.words.proofs.load.Tie as tie
 
 abbrev Inv-loop : tie.InvT-loop
 Inv-loop b c₀ i₀ i-end c i = (i-end ≡ length c₀) × (length c ≡ length c₀)

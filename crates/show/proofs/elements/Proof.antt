@@ -1,10 +1,10 @@
--- `known::show::elements` is safe and ends.
+-- `show::elements` is safe and ends.
 use mathlib.Core.Path.{_≡_}
 use Prim.Native.Nat.{_-_}
 use lib.ListN.{length}
 use borrow.Author.Needs.{needs}
-use Rattle.known.proofs.show.elements.Statement.{statement}
-use Rattle.known.proofs.show.elements.Tie as tie
+use Rattle.show.proofs.elements.Statement.{statement}
+use Rattle.show.proofs.elements.Tie as tie
 
 abbrev Inv-loop : tie.InvT-loop
 Inv-loop c i₀ i-end i = i-end ≡ length c
