@@ -1,7 +1,7 @@
 #!/usr/bin/env python3
 """The steps of section 7.13 of the AV1 specification over whole numbers of any size, for E8's engine to be compared with.
 
-A plain reading, apart from the crates: no range, no clip within a pass, no table of 33, no code of the library.
+No range, no clip within a pass, no table of 33, no code of the library; written from the same notes on section 7.13 as the crates.
 
     spec_steps.py known                    the lines that crates/known writes of the second engine
     spec_steps.py compare LIB [FILE [N]]   both engines of a shared library on the blocks of FILE, and on N generated ones
