@@ -87,6 +87,43 @@ fn number_of(refusal: Refusal) -> u8
     }
 }
 
+// Its place: that of the first offender, for numbers 9 and 10.
+pub fn place(answer: Answer) -> usize
+    ensures { λ r. ⌜ r ≡ answer-of answer .place ⌝ }
+{
+    match answer {
+        Answer::Done(_) => 0,
+        Answer::Refused(refusal) => place_of(refusal),
+    }
+}
+
+fn place_of(refusal: Refusal) -> usize
+    ensures { λ r. ⌜ r ≡ Answers.place refusal ⌝ }
+{
+    match refusal {
+        Refusal::NoSize => 0,
+        Refusal::NoType => 0,
+        Refusal::NoDepth => 0,
+        Refusal::NegativeEob => 0,
+        Refusal::NoSuchRows => 0,
+        Refusal::FewCoefficients => 0,
+        Refusal::BadStride => 0,
+        Refusal::RowOutside => 0,
+        Refusal::OutOfRange(i) => i,
+        Refusal::Stray(i) => i,
+    }
+}
+
+// Its mark; a refusal has none.
+pub fn mark(answer: Answer) -> bool
+    ensures { λ r. ⌜ r ≡ answer-of answer .mark ⌝ }
+{
+    match answer {
+        Answer::Done(mark) => mark,
+        Answer::Refused(_) => false,
+    }
+}
+
 // What the checks have found out so far.
 enum Verdict {
     Go(Plan, Depth),

@@ -1,22 +1,14 @@
 // The two-dimensional calls: document 01, "Known results", four blocks of request E9's types, both sides of numbers 1 to 10, and blocks by E8's engine.
 ghost use Prim.Native.Nat.{_<_, _≤_};
 use itx::Answer;
-use itx::Refusal;
 use strided::ByteStride;
 
-fn place(refusal: Refusal) -> u64 {
-    match refusal {
-        Refusal::OutOfRange(i) => i as u64,
-        Refusal::Stray(i) => i as u64,
-        _ => 0,
-    }
-}
-
 fn shown(answer: Answer, dst: &[u16], c: &[i32]) {
-    match answer {
-        Answer::Done(mark) => show::answer(0, 0, mark),
-        Answer::Refused(refusal) => show::answer(itx::number(answer) as u64, place(refusal), false),
-    }
+    show::answer(
+        itx::number(answer) as u64,
+        itx::place(answer) as u64,
+        itx::mark(answer),
+    );
     show::block(dst, c);
     show::end();
 }

@@ -1,6 +1,7 @@
 // The public calls for C (include/sgrifomel.h): each answers one word.
 ghost use mathlib.Core.Path.{_≡_};
-ghost use Prim.Native.Nat.{_<_};
+ghost use mathlib.Core.Bool.{cond};
+ghost use Prim.Native.Nat.{_*_, _≤_, _<_};
 ghost use Rattle.av1.specs.Sides.{of4, of8, of16, of32};
 ghost use Rattle.itx_1d.specs.Calls as Calls;
 ghost use Rattle.itx_1d.specs.declared.Kind.the-variants.{Dct, Identity, Adst, FlipAdst};
@@ -12,10 +13,16 @@ ghost use Rattle.itx.specs.Answers.{block};
 ghost use Rattle.sgrifomel.specs.Words.{packed, Packs, PacksBlock};
 ghost use Rattle.lossless.specs.Writes as Writes;
 use itx::Answer;
-use itx::Refusal;
 use itx_1d::Pass;
 use lossless::Written;
 use strided::ByteStride;
+
+// The mark as bit 8.
+fn bit(mark: bool) -> u64
+    ensures { λ r. ⌜ (r ≡ 256 * cond mark 1 0) × (r ≤ 256) ⌝ }
+{
+    if mark { 256 } else { 0 }
+}
 
 // No call has a place past the 1,024 numbers of a block, so a word holds it.
 fn pack(pass: Pass) -> u64
@@ -23,7 +30,7 @@ fn pack(pass: Pass) -> u64
     ensures { λ r. ⌜ r ≡ packed (Calls.answer-of pass) ⌝ }
 {
     match pass {
-        Pass::Done(mark) => if mark { 256 } else { 0 },
+        Pass::Done(mark) => bit(mark),
         Pass::Range => 11,
         Pass::Stride => 12,
         Pass::Short => 13,
@@ -181,32 +188,13 @@ pub extern "C" fn sgrifomel_inv_wht4_1d(c: &mut [i32], stride: usize) -> u64
     pack(itx_1d::inv_wht4_1d(c, stride))
 }
 
-fn pack_refusal(refusal: Refusal) -> u64
-    requires { ⌜ Answers.place refusal < 1024 ⌝ }
-    ensures { λ r. ⌜ r ≡ packed (Calls.refusal (Answers.number refusal) (Answers.place refusal)) ⌝ }
-{
-    match refusal {
-        Refusal::NoSize => 1,
-        Refusal::NoType => 2,
-        Refusal::NoDepth => 3,
-        Refusal::NegativeEob => 4,
-        Refusal::NoSuchRows => 5,
-        Refusal::FewCoefficients => 6,
-        Refusal::BadStride => 7,
-        Refusal::RowOutside => 8,
-        Refusal::OutOfRange(i) => 9 + 65536 * (i as u64),
-        Refusal::Stray(i) => 10 + 65536 * (i as u64),
-    }
-}
-
+// Of a block call: what `itx` says of its answer.
 fn pack_answer(answer: Answer) -> u64
     requires { ⌜ Answers.answer-of answer .place < 1024 ⌝ }
     ensures { λ r. ⌜ r ≡ packed (Answers.answer-of answer) ⌝ }
 {
-    match answer {
-        Answer::Done(mark) => if mark { 256 } else { 0 },
-        Answer::Refused(refusal) => pack_refusal(refusal),
-    }
+    let mark = bit(itx::mark(answer));
+    itx::number(answer) as u64 + mark + 65536 * (itx::place(answer) as u64)
 }
 
 #[no_mangle]

@@ -1,24 +1,33 @@
 -- `sgrifomel::pack_answer` meets its contract.
-use mathlib.Core.Path.{sym, ap, _∙_, subst}
-use Prim.Native.Nat.{ℕ, _<_}
+use mathlib.Core.Path.{_≡_, sym, ap, _∙_, subst}
+use mathlib.Core.Bool.{Bool, cond}
+use Prim.Native.Nat.{ℕ, _+_, _*_, _<_}
+use native.Mathlib.Omega.{arith}
 use borrow.Author.Needs.{needs}
-use Rattle.itx.specs.declared.Answer.{Answer}
-use Rattle.itx.specs.declared.Answer.the-variants.{Done}
-use Rattle.itx.specs.Answers.{answer-of}
-use Rattle.sgrifomel.specs.Words.{packed}
 use Rattle.sgrifomel.proofs.pack_answer.Statement.{statement}
 use Rattle.sgrifomel.proofs.pack_answer.Tie as tie
 
-abbrev word : Answer → ℕ
-word a = packed (answer-of a)
+-- the place is small
+small : (c : tie.After-place) → c .place .result < 1024
+small c = subst (λ (n : ℕ). n < 1024) (sym (c .place .ensures)) (c .before .before .before .before .pre)
+
+returns : tie.Need-returns
+returns c =
+    let n = c .before in
+    let b = n .before in
+    let mark = b .bit .ensures .0 ∙ ap (λ (m : Bool). 256 * cond m 1 0) (b .before .mark .ensures) in
+    λ i. n .number .ensures i + mark i + 65536 * c .place .ensures i
 
 pub pack-answer-spec : {M : Type 1} → statement M
 pack-answer-spec =
     tie.close
     (tie.spec
+    (λ c κs. search needs)
+    (λ c κs. search needs)
+    (λ c κs. search needs)
     (λ c. search needs)
-    (λ c. search needs)
-    (λ c κs. subst (λ (a : Answer). answer-of a .place < 1024) (c .before .answer2 .given .1) (c .before .before .before .pre))
-    (λ c. ap word (sym (c .before .before .answer .given .1 ∙ ap Done (c .if1 .taken))))
-    (λ c. ap word (sym (c .before .before .answer .given .1 ∙ ap Done (c .if1 .left))))
-    (λ c. c .pack-refusal .ensures ∙ ap word (sym (c .before .before .answer2 .given .1))))
+    (λ c. record { fits = omega (arith, c .number .ok, c .before .bit .ensures .1) })
+    (λ c κs. search needs)
+    (λ c. record { fits = omega (arith, small c) })
+    (λ c. record { fits = omega (arith, c .before .number .ok, c .before .before .bit .ensures .1, small c) })
+    returns)
