@@ -10,7 +10,8 @@ use lib.IntN.{ℤ, pos}
 use lib.ListN.{getD, length}
 use Rattle.whole.specs.Numbers.{outside, low, high}
 use Rattle.whole.specs.Lists.{at}
-use Rattle.whole.specs.Checks.{Check, accept, refuse, then, unless, unless-at}
+use Rattle.whole.specs.Checks.{Check, accept, refuse, then, when, judged}
+use Rattle.whole.proofs.Checks as Checks
 use Rattle.whole.proofs.Counts.{tab-ext, any-ext, first-ext}
 use Rattle.itx_1d.specs.Calls.{acceptance, refusal}
 use Rattle.itx_1d.specs.Passes.{Passed}
@@ -19,11 +20,11 @@ use Rattle.bitdepth.specs.Depths.{depth, row-range, maximum}
 use Rattle.levels.specs.declared.Plan.{Plan}
 use Rattle.levels.specs.Plans.{plan}
 use Rattle.levels.proofs.Sizes.{plan-of}
-use Rattle.strided.specs.Planes.{in-pixels, bad-stride, rows-outside, place}
+use Rattle.strided.specs.Planes.{in-pixels, rows-outside, place}
 use Rattle.residual.specs.Blocks.{Way, entered, row, middle, column, residual, marked, way, shortcut}
 use Rattle.coefs.specs.Coefs.{nonzero}
 use Rattle.pixels.specs.Adds.{add-pixel}
-use Rattle.itx.specs.Calls.{Block, Call, plain, live, bad-eob, bad-rows, stray, checks, verdict, short, live-rows, outcome-of, outcome}
+use Rattle.itx.specs.Calls.{Block, Call, plain, live, stray, table, checked, verdict, short, live-rows, outcome-of, outcome}
 use Rattle.itx.specs.Demands.{Accepted}
 use Rattle.itx.proofs.Outcomes.{added, answer-is, pixel-rule}
 use Rattle.itx.proofs.Sameness.{live-inside, area-positive}
@@ -52,9 +53,9 @@ module _ (𝓦 : Way) (c c′ : List ℤ) (alike : (i : ℕ) → i < 𝓦 .w * �
 
 -- ---- the calls
 
-stray-alike : (call : Call) (h : ℕ) (c c′ : List ℤ) (i : ℕ) → at c i ≡ at c′ i → stray call h c i ≡ stray call h c′ i
-stray-alike (plain e) h c c′ i q = refl
-stray-alike (live r) h c c′ i q = ap (λ (z : ℤ). leb r (i % h) && nonzero z) q
+stray-alike : (call : Call) (p : Plan) (c c′ : List ℤ) → ((i : ℕ) → i < p .w * p .h → at c i ≡ at c′ i) → stray call p c ≡ stray call p c′
+stray-alike (plain e) p c c′ q = refl
+stray-alike (live r) p c c′ q = first-ext (p .w * p .h) _ _ (λ i l. ap (λ (z : ℤ). leb r (i % p .h) && nonzero z) (q i l))
 
 -- the block with other coefficients and pixels
 abbrev pub other : Block → List ℤ → List ℕ → Block
@@ -63,27 +64,26 @@ other b c ps = record { w = b .w; h = b .h; type = b .type; depth = b .depth; co
 module _ (call : Call) (b : Block) (c : List ℤ) (ps : List ℕ) (alike : (i : ℕ) → i < b .w * b .h → at (b .coefs) i ≡ at c i)
     (as-enough : ltb (length (b .coefs)) (b .w * b .h) ≡ ltb (length c) (b .w * b .h)) (as-many : length (b .plane .pixels) ≡ length ps) where
   -- the checks look at nothing else
-  same-checks : (p : Plan) (d : Depth) → p .w ≡ b .w → p .h ≡ b .h → checks call b p d ≡ checks call (other b c ps) p d
+  same-checks : (p : Plan) (d : Depth) → p .w ≡ b .w → p .h ≡ b .h → judged (table call b) (p, d) ≡ judged (table call (other b c ps)) (p, d)
   same-checks p d e f =
-      let n = p .w * p .h in
       let m = row-range d in
-      let area : n ≡ b .w * b .h = ap₂ (λ (u v : ℕ). u * v) e f in
-      let same : (i : ℕ) → i < n → at (b .coefs) i ≡ at c i = λ i l. alike i (subst (λ (k : ℕ). i < k) area l) in
-      let ranged = first-ext n (λ i. outside (at (b .coefs) i) (low m) (high m)) (λ i. outside (at c i) (low m) (high m)) (λ i l. ap (λ (z : ℤ). outside z (low m) (high m)) (same i l)) in
-      let covered = first-ext n (stray call (p .h) (b .coefs)) (stray call (p .h) c) (λ i l. stray-alike call (p .h) (b .coefs) c i (same i l)) in
-      let enough = subst⁻¹ (λ (k : ℕ). ltb (length (b .coefs)) k ≡ ltb (length c) k) area as-enough in
-      λ j. unless (bad-eob call) 4 (unless (bad-rows call (p .h)) 5 (unless (enough j) 6 (unless (bad-stride (p .w) (b .plane .stride)) 7
-      (unless (rows-outside (as-many j) (b .plane .offset) (in-pixels (b .plane .stride)) (p .w) (p .h)) 8 (unless-at (ranged j) 9 (unless-at (covered j) 10 (accept (p, d))))))))
+      let area : p .w * p .h ≡ b .w * b .h = ap₂ (λ (u v : ℕ). u * v) e f in
+      let same : (i : ℕ) → i < p .w * p .h → at (b .coefs) i ≡ at c i = λ i l. alike i (subst (λ (k : ℕ). i < k) area l) in
+      let enough = ap when (subst⁻¹ (λ (k : ℕ). ltb (length (b .coefs)) k ≡ ltb (length c) k) area as-enough) in
+      let inside = ap (λ (n : ℕ). when (rows-outside n (b .plane .offset) (in-pixels (b .plane .stride)) (p .w) (p .h))) as-many in
+      let ranged = first-ext (p .w * p .h) _ _ (λ i l. ap (λ (z : ℤ). outside z (low m) (high m)) (same i l)) in
+      let covered = stray-alike call p (b .coefs) c same in
+      Checks.alike (table call b) (table call (other b c ps)) (p, d) (refl, refl, (refl, refl, (refl, enough, (refl, refl, (refl, inside, (refl, ranged, (refl, covered, tt)))))))
 
   pub same-verdict : verdict call b ≡ verdict call (other b c ps)
   same-verdict = sized (plan (b .w) (b .h) (b .type)) refl
     where
-      deep : (p : Plan) → p .w ≡ b .w → p .h ≡ b .h → (o : Check Depth) → then o (checks call b p) ≡ then o (checks call (other b c ps) p)
+      deep : (p : Plan) → p .w ≡ b .w → p .h ≡ b .h → (o : Check Depth)
+          → then (then o (λ d. accept (p, d))) (judged (table call b)) ≡ then (then o (λ d. accept (p, d))) (judged (table call (other b c ps)))
       deep p e f (accept d) = same-checks p d e f
       deep p e f (refuse n i) = refl
 
-      sized : (o : Check Plan) → plan (b .w) (b .h) (b .type) ≡ o
-          → then o (λ p. then (depth (b .depth)) (checks call b p)) ≡ then o (λ p. then (depth (b .depth)) (checks call (other b c ps) p))
+      sized : (o : Check Plan) → plan (b .w) (b .h) (b .type) ≡ o → checked call b o ≡ checked call (other b c ps) o
       sized (accept p) e = let k = plan-of (b .w) (b .h) (b .type) p e in deep p (k .w-is) (k .h-is) (depth (b .depth))
       sized (refuse n i) e = refl
 

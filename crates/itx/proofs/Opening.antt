@@ -1,6 +1,7 @@
 -- A check after one that went well.
 use mathlib.Core.Path.{_≡_, refl, sym, ap, _∙_, subst, subst⁻¹}
-use mathlib.Core.Bool.{Bool, true, false, not}
+use mathlib.Core.Bool.{Bool, not}
+use mathlib.Core.List.{[], _∷_}
 use mathlib.Core.Option.{Option}
 use Prim.Native.Nat.{ℕ}
 use lib.IntN.{ℤ, pos, negsuc}
@@ -10,13 +11,13 @@ use mir.Val.{SFits, toZ, ofZ}
 use mir.ValLaws.{toZ-ofZ}
 use borrow.Author.Tests.{le-ltb}
 use native.Mathlib.Omega.{arith}
-use Rattle.whole.specs.Checks.{Check, accept, refuse, then, unless, unless-at}
+use Rattle.whole.specs.Checks.{Check, accept, then, unless-at, Line, judged}
 use Rattle.bitdepth.specs.declared.Depth.{Depth}
 use Rattle.levels.specs.declared.Plan.{Plan}
 use Rattle.strided.specs.declared.PixelStride.{PixelStride}
 use Rattle.itx.specs.declared.Refusal.{Refusal}
 use Rattle.itx.specs.declared.Verdict.{Verdict}
-use Rattle.itx.specs.declared.Verdict.the-variants.{Go, Stop}
+use Rattle.itx.specs.declared.Verdict.the-variants.{Go}
 use Rattle.itx.specs.declared.Placed.{Placed}
 use Rattle.itx.specs.declared.Placed.the-variants.{At, Halt}
 use Rattle.itx.specs.Answers.{verdict-of, placed-of, Handed, Turned}
@@ -28,18 +29,12 @@ opened f e = ap (λ (v : Verdict). then (verdict-of v) f) (sym e)
 pub opened-at : {v : Placed} {p : Plan} {d : Depth} {s : PixelStride} (f : Plan × Depth → Check (Plan × Depth)) → v ≡ At p d s → f (p, d) ≡ then (placed-of v) f
 opened-at f e = ap (λ (v : Placed). then (placed-of v) f) (sym e)
 
--- by a test whose value is known: it refuses, or hands on what it was given
-pub refuses : {v : Verdict} {p : Plan} {d : Depth} (n : ℕ) (t : Plan × Depth → Bool) → v ≡ Go p d → t (p, d) ≡ true → refuse n 0 ≡ then (verdict-of v) (λ a. unless (t a) n (accept a))
-refuses {p = p} {d = d} n t e q = (λ i. unless (sym q i) n (accept (p, d))) ∙ opened (λ a. unless (t a) n (accept a)) e
+-- a line of the table decides by what it finds: it refuses, or hands on what it was given
+pub decides : {v : Verdict} {p : Plan} {d : Depth} {o : Option ℕ} (l : Line (Plan × Depth)) → v ≡ Go p d → o ≡ l .1 (p, d) → unless-at o (l .0) (accept (p, d)) ≡ then (verdict-of v) (judged (l ∷ []))
+decides {p = p} {d = d} l e q = (λ i. unless-at (q i) (l .0) (accept (p, d))) ∙ opened (judged (l ∷ [])) e
 
-pub takes : {v : Verdict} {p : Plan} {d : Depth} (n : ℕ) (t : Plan × Depth → Bool) → v ≡ Go p d → t (p, d) ≡ false → accept (p, d) ≡ then (verdict-of v) (λ a. unless (t a) n (accept a))
-takes {p = p} {d = d} n t e q = (λ i. unless (sym q i) n (accept (p, d))) ∙ opened (λ a. unless (t a) n (accept a)) e
-
-pub goes-on : {v : Verdict} {p : Plan} {d : Depth} (n : ℕ) (t : Plan × Depth → Bool) → v ≡ Go p d → t (p, d) ≡ false → verdict-of v ≡ then (verdict-of v) (λ a. unless (t a) n (accept a))
-goes-on n t e q = ap verdict-of e ∙ takes n t e q
-
-abbrev pub paired : Plan → Depth → Check (Plan × Depth)
-paired p d = accept (p, d)
+pub decides-at : {v : Placed} {p : Plan} {d : Depth} {s : PixelStride} {o : Option ℕ} (l : Line (Plan × Depth)) → v ≡ At p d s → o ≡ l .1 (p, d) → unless-at o (l .0) (accept (p, d)) ≡ then (placed-of v) (judged (l ∷ []))
+decides-at {p = p} {d = d} l e q = (λ i. unless-at (q i) (l .0) (accept (p, d))) ∙ opened-at (judged (l ∷ [])) e
 
 -- the code's test of a sign
 pub negative : (z : ℤ) {t : Bool} → SFits w32 z → ltZ (toZ w32 (ofZ w32 z)) (pos 0) ≡ t → not (nonNeg z) ≡ t
@@ -52,10 +47,6 @@ negative z f e = below z ∙ ap (λ (y : ℤ). ltZ y (pos 0)) (sym (toZ-ofZ w32 
 -- a check that was told to stop hands that on
 pub halted : {v : Placed} {r : Refusal} (f : Plan × Depth → Check (Plan × Depth)) → v ≡ Halt r → (placed-of v ≡ then (placed-of v) f) × Handed v v
 halted f e = (ap placed-of e ∙ ap (λ (v : Placed). then (placed-of v) f) (sym e), subst⁻¹ (λ (v : Placed). Handed v v) e tt)
-
--- a search decides by what it found
-pub searched : {v : Placed} {p : Plan} {d : Depth} {s : PixelStride} (n : ℕ) (g : Plan × Depth → Option ℕ) {o : Option ℕ} → v ≡ At p d s → o ≡ g (p, d) → unless-at o n (accept (p, d)) ≡ then (placed-of v) (λ a. unless-at (g a) n (accept a))
-searched {p = p} {d = d} n g e q = (λ i. unless-at (q i) n (accept (p, d))) ∙ opened-at (λ a. unless-at (g a) n (accept a)) e
 
 -- a stride that was turned stays so
 pub still-turned : (before after : Placed) (bytes : ℤ) → Handed before after → Turned bytes before → Turned bytes after

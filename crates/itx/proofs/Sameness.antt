@@ -1,7 +1,7 @@
 -- Demand 3, live rows: each covering count and each eob from 1 up leave the same; a count that does not cover is refused as stray, and no other.
 use mathlib.Core.Path.{_≡_, refl, sym, ap, _∙_}
 use mathlib.Core.Bool.{Bool, true, false, cond, not, _&&_}
-use mathlib.Core.List.{List, _++_}
+use mathlib.Core.List.{List, [], _∷_, _++_}
 use mathlib.Core.Option.{Option, none, some}
 use Prim.Native.Nat.{ℕ, zero, suc, _+_, _*_, _/_, _%_, _≤_, _<_}
 use native.Mathlib.Nat.{mod-add-div', mod-lt, mod-eq-of-lt, add-mul-mod-self-right, div-lt-iff-lt-mul, mul-le-mul-right}
@@ -11,21 +11,20 @@ use lib.Dec.{leb}
 use lib.IntN.{ℤ, pos, negsuc}
 use lib.ListN.{replicate, drop}
 use Rattle.whole.specs.Lists.{at, first}
-use Rattle.whole.specs.Checks.{accept, refuse, then, unless, unless-at}
+use Rattle.whole.specs.Checks.{accept, refuse, then, unless-at, when, judged}
 use Rattle.whole.proofs.Counts.{first-none, none-first}
 use Rattle.itx_1d.specs.Calls.{acceptance}
 use Rattle.bitdepth.specs.declared.Depth.{Depth}
-use Rattle.bitdepth.specs.Depths.{depth, maximum}
+use Rattle.bitdepth.specs.Depths.{maximum}
 use Rattle.levels.specs.declared.Plan.{Plan}
 use Rattle.levels.proofs.Sizes.{Sided, side-bounds, plan-sided}
 use Rattle.residual.specs.declared.Engine.{Engine}
 use Rattle.residual.specs.declared.Engine.the-variants.{First}
 use Rattle.residual.specs.Blocks.{way, way-by, residual}
-use Rattle.coefs.specs.Coefs.{nonzero}
+use Rattle.coefs.specs.Coefs.{nonzero, in-dead-row, Covers}
 use Rattle.pixels.specs.Adds.{add-pixel}
-use Rattle.itx.specs.Calls.{Block, Call, plain, live, bad-rows, stray, checks, verdict, Outcome, short, live-rows, by-shortcut, by-passes, outcome-of, outcome}
+use Rattle.itx.specs.Calls.{Block, Call, plain, live, bad-rows, stray, rows-line, stray-line, with-depth, table, verdict, Outcome, short, live-rows, by-shortcut, by-passes, outcome-of, outcome}
 use Rattle.itx.specs.Demands.{Accepted, whole}
-use Rattle.coefs.specs.Coefs.{Covers}
 use Rattle.itx.proofs.LiveRows.{quiet, residual-same, marked-same}
 use Rattle.pixels.proofs.Pixels.{rows-ext}
 use Rattle.itx.proofs.Verdicts.{accepting}
@@ -38,7 +37,7 @@ is-zero (pos (suc n)) e = let z : _≡_ {A = ℕ} 0 1 = cc in let f : ⊥ = omeg
 is-zero (negsuc n) e = let z : _≡_ {A = ℕ} 0 1 = cc in let f : ⊥ = omega arith in absurd f
 
 module _ (w h : ℕ) (h-pos : 0 < h) (c : List ℤ) (r : ℕ) where
-  no-stray : Covers w h c r → (i : ℕ) → i < w * h → stray (live r) h c i ≡ false
+  no-stray : Covers w h c r → (i : ℕ) → i < w * h → in-dead-row r h c i ≡ false
   no-stray covers i l = go (leb r (i % h)) refl
     where
       go : (t : Bool) → leb r (i % h) ≡ t → t && nonzero (at c i) ≡ false
@@ -47,14 +46,14 @@ module _ (w h : ℕ) (h-pos : 0 < h) (c : List ℤ) (r : ℕ) where
           ap (λ (j : ℕ). nonzero (at c j)) (sym (mod-add-div' i h))
           ∙ ap nonzero (covers (i % h) (i / h) (leb-true r (i % h) e) (mod-lt i h-pos) (div-lt-iff-lt-mul h-pos .1 l))
 
-  pub strays-none : Covers w h c r → first (w * h) (stray (live r) h c) ≡ none
-  strays-none covers = none-first (w * h) (stray (live r) h c) (no-stray covers)
+  pub strays-none : Covers w h c r → first (w * h) (in-dead-row r h c) ≡ none
+  strays-none covers = none-first (w * h) (in-dead-row r h c) (no-stray covers)
 
-  pub covers-of : first (w * h) (stray (live r) h c) ≡ none → Covers w h c r
+  pub covers-of : first (w * h) (in-dead-row r h c) ≡ none → Covers w h c r
   covers-of e y x a b l =
       let j : y + x * h < w * h = omega (arith, mul-le-mul-right {m = suc x} {n = w} h l) in
       let m : (y + x * h) % h ≡ y = add-mul-mod-self-right y x h ∙ mod-eq-of-lt b in
-      let s = first-none (w * h) (stray (live r) h c) e (y + x * h) j in
+      let s = first-none (w * h) (in-dead-row r h c) e (y + x * h) j in
       is-zero (at c (y + x * h)) (sym (ap (λ (t : Bool). t && nonzero (at c (y + x * h))) (ap (leb r) m ∙ le-leb r y a)) ∙ s)
 
 pub second-true : (s t : Bool) → not (s && t) ≡ false → t ≡ true
@@ -129,24 +128,24 @@ module _ (b : Block) (p : Plan) (d : Depth) where
       covered = strays-none (p .w) (p .h) (h-positive (plain (pos 0)) good) (b .coefs) r k;
     }
 
-    -- what is left of the checks of a live-row call
-    live-checks : (r : ℕ) → verdict (live r) b ≡ unless (bad-rows (live r) (p .h)) 5 (unless-at (first (p .w * p .h) (stray (live r) (p .h) (b .coefs))) 10 (accept (p, d)))
+    -- what is left of the table for a live-row call
+    live-checks : (r : ℕ) → verdict (live r) b ≡ judged (rows-line (live r) ∷ stray-line (live r) (b .coefs) ∷ []) (p, d)
     live-checks r =
-        ap (λ c. then c (λ p. then (depth (b .depth)) (checks (live r) b p))) (good .planned) ∙ ap (λ c. then c (checks (live r) b p)) (good .deep)
-        ∙ (λ j. unless (bad-rows (live r) (p .h)) 5 (unless (good .enough j) 6 (unless (good .stride j) 7 (unless (good .inside j) 8 (unless-at (good .ranged j) 9
-        (unless-at (first (p .w * p .h) (stray (live r) (p .h) (b .coefs))) 10 (accept (p, d))))))))
+        let t = table (live r) b in
+        ap (λ c. then (then c (with-depth (b .depth))) (judged t)) (good .planned) ∙ ap (λ c. then (then c (λ d. accept (p, d))) (judged t)) (good .deep)
+        ∙ (λ j. unless-at (when (bad-rows (live r) (p .h))) 5 (unless-at (when (good .enough j)) 6 (unless-at (when (good .stride j)) 7 (unless-at (when (good .inside j)) 8
+        (unless-at (good .ranged j) 9 (unless-at (stray (live r) p (b .coefs)) 10 (accept (p, d))))))))
 
     -- a count in the bounds that does not cover is refused as stray, at the first stray's place
-    pub stray-at : (r i : ℕ) → 1 ≤ r → r ≤ p .h → first (p .w * p .h) (stray (live r) (p .h) (b .coefs)) ≡ some i
-        → outcome (live r) b ≡ outcome-of way (live r) b (refuse 10 i)
+    pub stray-at : (r i : ℕ) → 1 ≤ r → r ≤ p .h → stray (live r) p (b .coefs) ≡ some i → outcome (live r) b ≡ outcome-of way (live r) b (refuse 10 i)
     unfolding outcome
     stray-at r i g l e =
-        ap (outcome-of way (live r) b) (live-checks r ∙ (λ j. unless (not (le-leb 1 r g j && le-leb r (p .h) l j)) 5 (unless-at (e j) 10 (accept (p, d)))))
+        ap (outcome-of way (live r) b) (live-checks r ∙ (λ j. unless-at (when (not (le-leb 1 r g j && le-leb r (p .h) l j))) 5 (unless-at (e j) 10 (accept (p, d)))))
 
     pub stray-refused : (r : ℕ) → 1 ≤ r → r ≤ p .h → (Covers (p .w) (p .h) (b .coefs) r → ⊥) → outcome (live r) b .answer .number ≡ 10
-    stray-refused r g l f = go (first (p .w * p .h) (stray (live r) (p .h) (b .coefs))) refl
+    stray-refused r g l f = go (stray (live r) p (b .coefs)) refl
       where
-        go : (o : Option ℕ) → first (p .w * p .h) (stray (live r) (p .h) (b .coefs)) ≡ o → outcome (live r) b .answer .number ≡ 10
+        go : (o : Option ℕ) → stray (live r) p (b .coefs) ≡ o → outcome (live r) b .answer .number ≡ 10
         go none e = absurd (f (covers-of (p .w) (p .h) (h-positive (plain (pos 0)) good) (b .coefs) r e))
         go (some i) e = ap (λ (o : Outcome). o .answer .number) (stray-at r i g l e)
 
@@ -155,9 +154,9 @@ module _ (b : Block) (p : Plan) (d : Depth) where
     unfolding outcome
     not-stray r k e = go (bad-rows (live r) (p .h)) (sym (ap (λ v. outcome-of way (live r) b v .answer .number) steps) ∙ e)
       where
-        steps : verdict (live r) b ≡ unless (bad-rows (live r) (p .h)) 5 (accept (p, d))
-        steps = live-checks r ∙ (λ j. unless (bad-rows (live r) (p .h)) 5 (unless-at (strays-none (p .w) (p .h) (h-positive (plain (pos 0)) good) (b .coefs) r k j) 10 (accept (p, d))))
+        steps : verdict (live r) b ≡ judged (rows-line (live r) ∷ []) (p, d)
+        steps = live-checks r ∙ (λ j. unless-at (when (bad-rows (live r) (p .h))) 5 (unless-at (strays-none (p .w) (p .h) (h-positive (plain (pos 0)) good) (b .coefs) r k j) 10 (accept (p, d))))
 
-        go : (t : Bool) → outcome-of way (live r) b (unless t 5 (accept (p, d))) .answer .number ≡ 10 → ⊥
+        go : (t : Bool) → outcome-of way (live r) b (unless-at (when t) 5 (accept (p, d))) .answer .number ≡ 10 → ⊥
         go true f = omega arith
         go false f = omega arith

@@ -13,14 +13,13 @@ use Rattle.whole.proofs.Counts.{any-none}
 use Rattle.itx_1d.specs.Calls.{Answer, refusal}
 use Rattle.itx_1d.specs.Manners.{is-adst}
 use Rattle.bitdepth.specs.declared.Depth.{Depth}
-use Rattle.bitdepth.specs.Depths.{depth}
 use Rattle.levels.specs.declared.Plan.{Plan}
 use Rattle.levels.specs.Plans.{plan}
 use Rattle.residual.specs.declared.Engine.the-variants.{First, Spec}
 use Rattle.residual.specs.Blocks.{way-by, marked, row, column}
 use Rattle.itx.specs.Answers.{Allowed, adst-planned}
 use Rattle.itx.specs.Av1.{av1-way}
-use Rattle.itx.specs.Calls.{Block, Call, Outcome, Leaves, Meets, checks, verdict, spec-verdict, with-adst, short, live-rows, by-shortcut, outcome-of, outcome}
+use Rattle.itx.specs.Calls.{Block, Call, Outcome, Leaves, Meets, checked, verdict, spec-verdict, with-adst, short, live-rows, by-shortcut, outcome-of, outcome}
 use Rattle.itx.specs.Spec.{SpecMeets, spec-outcome}
 use Rattle.itx.proofs.Av1Same.{enter-av1, between-av1, unmarked-av1}
 
@@ -55,13 +54,16 @@ module _ (call : Call) (b : Block) where
   planned = plan (b .w) (b .h) (b .type)
 
   -- a type without an ADST is judged as by the first engine, and one with it is refused by 2
-  judged : (c : Check Plan) → adst-planned c ≡ false → then c (λ p. unless (with-adst p) 2 (then (depth (b .depth)) (checks call b p))) ≡ then c (λ p. then (depth (b .depth)) (checks call b p))
-  judged (accept p) e = ap (λ (t : Bool). unless t 2 (then (depth (b .depth)) (checks call b p))) e
+  judged : (c : Check Plan) → adst-planned c ≡ false → then c (λ p. unless (with-adst p) 2 (accept p)) ≡ c
+  judged (accept p) e = ap (λ (t : Bool). unless t 2 (accept p)) e
   judged (refuse n i) e = refl
 
-  barred : (c : Check Plan) → adst-planned c ≡ true → then c (λ p. unless (with-adst p) 2 (then (depth (b .depth)) (checks call b p))) ≡ refuse 2 0
-  barred (accept p) e = ap (λ (t : Bool). unless t 2 (then (depth (b .depth)) (checks call b p))) e
+  barred : (c : Check Plan) → adst-planned c ≡ true → then c (λ p. unless (with-adst p) 2 (accept p)) ≡ refuse 2 0
+  barred (accept p) e = ap (λ (t : Bool). unless t 2 (accept p)) e
   barred (refuse n i) e = let z : _≡_ {A = ℕ} 0 1 = cc in let f : ⊥ = omega arith in absurd f
+
+  abbrev by-spec : Check Plan → Outcome
+  by-spec c = outcome-of av1-way call b (checked call b c)
 
   -- what the inner calls leave is what the public ones promise
   module _ {answer : Answer} {ps : List ℕ} {cs : List ℤ} where
@@ -75,25 +77,25 @@ module _ (call : Call) (b : Block) where
 
     pub spec-meets : adst-planned planned ≡ false → Leaves (outcome-of (way-by Spec) call b (verdict call b)) answer ps cs → SpecMeets call b answer ps cs
     unfolding spec-outcome
-    spec-meets h m = as-spec (λ i. outcome-of (λ p d. way-is p d i) call b (sym (judged planned h) i)) m
+    spec-meets h m = as-spec (λ i. outcome-of (λ p d. way-is p d i) call b (checked call b (sym (judged planned h) i))) m
 
   pub spec-refused : adst-planned planned ≡ true → SpecMeets call b (refusal 2 0) (b .plane .pixels) (b .coefs)
   unfolding spec-outcome
-  spec-refused h = as-spec (ap (outcome-of av1-way call b) (sym (barred planned h))) (record { answer-is = refl; pixels-are = refl; coefs-are = refl })
+  spec-refused h = as-spec (ap by-spec (sym (barred planned h))) (record { answer-is = refl; pixels-are = refl; coefs-are = refl })
 
   -- ---- E8's theorem
 
   -- "equal to the first engine's on every accepted block whose mark, in E4's sense, is no": on every call whose type has no ADST, refused ones too
   pub spec-same : adst-planned planned ≡ false → outcome call b .answer .mark ≡ false → spec-outcome call b ≡ outcome call b
   unfolding spec-outcome
-  spec-same h e = ap (outcome-of av1-way call b) (judged planned h) ∙ sym (unmarked-av1 b call e)
+  spec-same h e = ap by-spec (judged planned h) ∙ sym (unmarked-av1 b call e)
 
   pub accepted-same : (p : Plan) (d : Depth) → spec-verdict call b ≡ accept (p, d) → outcome call b .answer .mark ≡ false → spec-outcome call b ≡ outcome call b
   accepted-same p d a e = go (adst-planned planned) refl
     where
       go : (t : Bool) → adst-planned planned ≡ t → spec-outcome call b ≡ outcome call b
       go false h = spec-same h e
-      go true h = absurd (refuse≢accept 2 0 (p, d) (sym (barred planned h) ∙ a))
+      go true h = absurd (refuse≢accept 2 0 (p, d) (sym (ap (checked call b) (barred planned h)) ∙ a))
 
   -- "gives no mark"
   pub spec-unmarked : spec-outcome call b .answer .mark ≡ false

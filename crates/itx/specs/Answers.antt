@@ -5,14 +5,12 @@ use mathlib.Core.Path.{_≡_}
 use Prim.Native.Nat.{ℕ, _*_, _≤_}
 use lib.IntN.{ℤ, pos}
 use lib.ListN.{length, set, replicate, drop}
-use Rattle.whole.specs.Numbers.{outside, low, high}
-use Rattle.whole.specs.Lists.{at, first}
-use Rattle.whole.specs.Checks.{Check, accept, refuse, unless, unless-at}
+use Rattle.whole.specs.Lists.{at}
+use Rattle.whole.specs.Checks.{Check, accept, refuse}
 use Rattle.bitdepth.specs.declared.Depth.{Depth}
-use Rattle.bitdepth.specs.Depths.{row-range, maximum}
-use Rattle.coefs.specs.Coefs.{in-dead-row}
+use Rattle.bitdepth.specs.Depths.{maximum}
 use Rattle.levels.specs.declared.Plan.{Plan}
-use Rattle.strided.specs.Planes.{Plane, in-pixels, bad-stride, rows-outside, lent}
+use Rattle.strided.specs.Planes.{Plane, in-pixels, rows-outside, lent}
 use Rattle.pixels.specs.Adds.{add-rows}
 use Rattle.residual.specs.declared.Engine.{Engine}
 use Rattle.residual.specs.Blocks.{way-by, residual, marked, shortcut}
@@ -90,17 +88,6 @@ RowsIn r (Halt x) = Unit {0}
 abbrev pub Handed : Placed → Placed → Type 0
 Handed before (At p d s) = before ≡ At p d s
 Handed before (Halt r) = Unit {0}
-
--- ---- the checks themselves, each of the plan and depth that it is handed
-
-abbrev pub plane-check : ℕ → ℕ → ℤ → Plan × Depth → Check (Plan × Depth)
-plane-check size offset bytes a = unless (bad-stride (a .0 .w) bytes) 7 (unless (rows-outside size offset (in-pixels bytes) (a .0 .w) (a .0 .h)) 8 (accept a))
-
-abbrev pub range-check : List ℤ → Plan × Depth → Check (Plan × Depth)
-range-check c a = unless-at (first (a .0 .w * a .0 .h) (λ i. outside (at c i) (low (row-range (a .1))) (high (row-range (a .1))))) 9 (accept a)
-
-abbrev pub stray-check : ℕ → List ℤ → Plan × Depth → Check (Plan × Depth)
-stray-check r c a = unless-at (first (a .0 .w * a .0 .h) (in-dead-row r (a .0 .h) c)) 10 (accept a)
 
 -- ---- the block that a call is given
 

@@ -1,6 +1,7 @@
 -- The two public calls: document 01, "Numbers of refusal", and steps 6 and 7 of "Two-dimensional transform".
 use mathlib.Core.Bool.{Bool, false, cond, not, _&&_, _||_}
-use mathlib.Core.List.{List, _++_}
+use mathlib.Core.List.{List, [], _∷_, _++_}
+use mathlib.Core.Option.{Option, none}
 use mathlib.Core.Path.{_≡_}
 use Prim.Native.Nat.{ℕ, zero, suc, _*_}
 use lib.Dec.{ltb, leb}
@@ -9,7 +10,7 @@ use lib.ListN.{length, set, replicate, drop}
 use lib.Signed.{nonNeg}
 use Rattle.whole.specs.Numbers.{outside, low, high}
 use Rattle.whole.specs.Lists.{at, first}
-use Rattle.whole.specs.Checks.{Check, accept, refuse, then, unless, unless-at}
+use Rattle.whole.specs.Checks.{Check, accept, refuse, then, unless, Line, when, judged}
 use Rattle.itx_1d.specs.Manners.{is-dct, is-adst}
 use Rattle.itx_1d.specs.Calls.{Answer, refusal, acceptance}
 use Rattle.bitdepth.specs.declared.Depth.{Depth}
@@ -18,7 +19,7 @@ use Rattle.levels.specs.declared.Plan.{Plan}
 use Rattle.levels.specs.Plans.{plan}
 use Rattle.coefs.specs.Coefs.{in-dead-row}
 use Rattle.pixels.specs.Adds.{add-rows}
-use Rattle.strided.specs.Planes.{Plane, bad-stride, row-outside}
+use Rattle.strided.specs.Planes.{Plane, in-pixels, bad-stride, rows-outside}
 use Rattle.residual.specs.Blocks.{Way, residual, marked, way, shortcut}
 
 pub record Block : Type 0 where
@@ -45,37 +46,62 @@ abbrev pub bad-rows : Call → ℕ → Bool
 bad-rows (plain eob) h = false
 bad-rows (live r) h = not (leb 1 r && leb r h)
 
+-- number 9: "one of the first w·h coefficients outside the row range"
+abbrev pub out-of-range : Plan × Depth → List ℤ → Option ℕ
+out-of-range (p, d) c = first (p .w * p .h) (λ i. outside (at c i) (low (row-range d)) (high (row-range d)))
+
 -- number 10: "live-row call: nonzero coefficient in a row r or later"
-abbrev pub stray : Call → ℕ → List ℤ → ℕ → Bool
-stray (plain eob) h c i = false
-stray (live r) h c i = in-dead-row r h c i
+abbrev pub stray : Call → Plan → List ℤ → Option ℕ
+stray (plain eob) p c = none
+stray (live r) p c = first (p .w * p .h) (in-dead-row r (p .h) c)
+
+-- the lines of the table that speak of a plan and a depth; where the slice is lent they ask for its length alone
+abbrev pub eob-line : Call → Line (Plan × Depth)
+eob-line call = (4, λ a. when (bad-eob call))
+
+abbrev pub rows-line : Call → Line (Plan × Depth)
+rows-line call = (5, λ a. when (bad-rows call (a .0 .h)))
+
+abbrev pub count-line : ℕ → Line (Plan × Depth)
+count-line count = (6, λ a. when (ltb count (a .0 .w * a .0 .h)))
+
+abbrev pub plane-lines : ℕ → ℕ → ℤ → List (Line (Plan × Depth))
+plane-lines size offset bytes =
+    (7, λ a. when (bad-stride (a .0 .w) bytes))
+    ∷ (8, λ a. when (rows-outside size offset (in-pixels bytes) (a .0 .w) (a .0 .h)))
+    ∷ []
+
+abbrev pub range-line : List ℤ → Line (Plan × Depth)
+range-line c = (9, λ a. out-of-range a c)
+
+abbrev pub stray-line : Call → List ℤ → Line (Plan × Depth)
+stray-line call c = (10, λ a. stray call (a .0) c)
+
+-- number 3
+abbrev pub with-depth : ℕ → Plan → Check (Plan × Depth)
+with-depth n p = then (depth n) (λ d. accept (p, d))
 
 abbrev pub with-adst : Plan → Bool
 with-adst p = is-adst (p .rows) || is-adst (p .columns)
 
 module _ (call : Call) (b : Block) where
   -- numbers 4 to 10
-  abbrev pub checks : Plan → Depth → Check (Plan × Depth)
-  checks p d =
-      let n = p .w * p .h in
-      let m = row-range d in
+  abbrev pub table : List (Line (Plan × Depth))
+  table =
       let c = b .coefs in
-      unless (bad-eob call) 4
-      (unless (bad-rows call (p .h)) 5
-      (unless (ltb (length c) n) 6
-      (unless (bad-stride (p .w) (b .plane .stride)) 7
-      (unless (row-outside (p .w) (p .h) (b .plane)) 8
-      (unless-at (first n (λ i. outside (at c i) (low m) (high m))) 9
-      (unless-at (first n (stray call (p .h) c)) 10
-      (accept (p, d))))))))
+      let a = b .plane in
+      eob-line call ∷ rows-line call ∷ count-line (length c) ∷ plane-lines (length (a .pixels)) (a .offset) (a .stride) ++ range-line c ∷ stray-line call c ∷ []
 
   -- "Checked in this order; the first that applies is answered, and none otherwise."
+  abbrev pub checked : Check Plan → Check (Plan × Depth)
+  checked p = then (then p (with-depth (b .depth))) (judged table)
+
   abbrev pub verdict : Check (Plan × Depth)
-  verdict = then (plan (b .w) (b .h) (b .type)) (λ p. then (depth (b .depth)) (checks p))
+  verdict = checked (plan (b .w) (b .h) (b .type))
 
   -- the same for the second engine, which "still refuses them by 2": a type with an ADST (E9)
   abbrev pub spec-verdict : Check (Plan × Depth)
-  spec-verdict = then (plan (b .w) (b .h) (b .type)) (λ p. unless (with-adst p) 2 (then (depth (b .depth)) (checks p)))
+  spec-verdict = checked (then (plan (b .w) (b .h) (b .type)) (λ p. unless (with-adst p) 2 (accept p)))
 
 -- ---- what is left
 

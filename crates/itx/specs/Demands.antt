@@ -6,17 +6,16 @@ use Prim.Native.Nat.{ℕ, suc, _*_, _≤_, _<_}
 use lib.Dec.{ltb}
 use lib.IntN.{pos}
 use lib.ListN.{getD, length}
-use Rattle.whole.specs.Numbers.{outside, low, high}
-use Rattle.whole.specs.Lists.{at, first}
+use Rattle.whole.specs.Lists.{at}
 use Rattle.whole.specs.Checks.{accept}
 use Rattle.bitdepth.specs.declared.Depth.{Depth}
-use Rattle.bitdepth.specs.Depths.{depth, row-range, maximum}
+use Rattle.bitdepth.specs.Depths.{depth, maximum}
 use Rattle.levels.specs.declared.Plan.{Plan}
 use Rattle.levels.specs.Plans.{plan}
 use Rattle.coefs.specs.Coefs.{Covers}
 use Rattle.strided.specs.Planes.{bad-stride, row-outside, place}
 use Rattle.residual.specs.Blocks.{way}
-use Rattle.itx.specs.Calls.{Block, Call, plain, live, bad-eob, bad-rows, stray, Outcome, short, by-passes}
+use Rattle.itx.specs.Calls.{Block, Call, plain, live, bad-eob, bad-rows, out-of-range, stray, Outcome, short, by-passes}
 
 -- none of the numbers 1 to 10 holds
 pub record Accepted (call : Call) (b : Block) (p : Plan) (d : Depth) : Type 0 where
@@ -27,8 +26,8 @@ pub record Accepted (call : Call) (b : Block) (p : Plan) (d : Depth) : Type 0 wh
   pub enough : ltb (length (b .coefs)) (p .w * p .h) ≡ false
   pub stride : bad-stride (p .w) (b .plane .stride) ≡ false
   pub inside : row-outside (p .w) (p .h) (b .plane) ≡ false
-  pub ranged : first (p .w * p .h) (λ i. outside (at (b .coefs) i) (low (row-range d)) (high (row-range d))) ≡ none
-  pub covered : first (p .w * p .h) (stray call (p .h) (b .coefs)) ≡ none
+  pub ranged : out-of-range (p, d) (b .coefs) ≡ none
+  pub covered : stray call p (b .coefs) ≡ none
 
 module _ (b : Block) (p : Plan) where
   -- nothing is nonzero after the first coefficient

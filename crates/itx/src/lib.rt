@@ -1,15 +1,11 @@
 // The two-dimensional transform of src/itx.rs with its checks: the plain call and the live-row call.
 ghost use mathlib.Core.Path.{_≡_};
-ghost use mathlib.Core.Bool.{false, not, _&&_};
+ghost use mathlib.Core.Bool.{false};
 ghost use Prim.Native.Nat.{ℕ, _*_, _≤_};
-ghost use lib.Dec.{ltb, leb};
-ghost use lib.IntN.{ℤ};
 ghost use lib.ListN.{length};
-ghost use mathlib.Core.List.{List};
+ghost use mathlib.Core.List.{List, [], _∷_};
 ghost use Rattle.strided.specs.Planes.{lent};
-ghost use lib.Signed.{nonNeg};
-ghost use Rattle.whole.specs.Checks.{accept, then, unless};
-ghost use Rattle.bitdepth.specs.Depths as Depths;
+ghost use Rattle.whole.specs.Checks.{then, judged};
 ghost use Rattle.levels.specs.Plans as Plans;
 ghost use Rattle.itx_1d.specs.Manners.{is-adst};
 ghost use Rattle.residual.specs.Inner.{wht-plan, Served};
@@ -17,7 +13,7 @@ ghost use Rattle.residual.specs.Blocks.{way-by};
 ghost use Rattle.itx.specs.Spec as Spec;
 ghost use Rattle.itx.specs.Calls as Calls;
 ghost use Rattle.itx.specs.Answers as Answers;
-ghost use Rattle.itx.specs.Answers.{answer-of, verdict-of, placed-of, Turned, Within32, Enough, RowsIn, Handed, plane-check, range-check, stray-check, block, Ready, Passed, Shortened, Allowed, adst-planned};
+ghost use Rattle.itx.specs.Answers.{answer-of, verdict-of, placed-of, Turned, Within32, Enough, RowsIn, Handed, block, Ready, Passed, Shortened, Allowed, adst-planned};
 use bitdepth::Depth;
 use bitdepth::DepthCheck;
 use bitdepth::Range;
@@ -138,7 +134,7 @@ enum Placed {
 
 // Number 3.
 fn check_depth(plan: Plan, depth: usize) -> Verdict
-    ensures { λ r. ⌜ verdict-of r ≡ then (Depths.depth depth) (λ d. accept (plan, d)) ⌝ }
+    ensures { λ r. ⌜ verdict-of r ≡ Calls.with-depth depth plan ⌝ }
 {
     let checked = Depth::of(depth);
     let DepthCheck::Taken(d) = checked else {
@@ -149,7 +145,7 @@ fn check_depth(plan: Plan, depth: usize) -> Verdict
 
 // Numbers 1 to 3.
 fn check_kind(w: usize, h: usize, txtp: usize, depth: usize) -> Verdict
-    ensures { λ r. ⌜ verdict-of r ≡ then (Plans.plan w h txtp) (λ p. then (Depths.depth depth) (λ d. accept (p, d))) ⌝ }
+    ensures { λ r. ⌜ verdict-of r ≡ then (Plans.plan w h txtp) (Calls.with-depth depth) ⌝ }
 {
     let decision = Plan::of(w, h, txtp);
     match decision {
@@ -161,7 +157,7 @@ fn check_kind(w: usize, h: usize, txtp: usize, depth: usize) -> Verdict
 
 // Number 4.
 fn check_eob(before: Verdict, eob: i32) -> Verdict
-    ensures { λ r. ⌜ verdict-of r ≡ then (verdict-of before) (λ a. unless (not (nonNeg eob)) 4 (accept a)) ⌝ }
+    ensures { λ r. ⌜ verdict-of r ≡ then (verdict-of before) (judged (Calls.eob-line (Calls.plain eob) ∷ [])) ⌝ }
 {
     let Verdict::Go(_, _) = before else {
         return before;
@@ -174,7 +170,7 @@ fn check_eob(before: Verdict, eob: i32) -> Verdict
 
 // Number 5.
 fn check_rows(before: Verdict, r: usize) -> Verdict
-    ensures { λ v. ⌜ verdict-of v ≡ then (verdict-of before) (λ a. unless (not (leb 1 r && leb r (a .0 .h))) 5 (accept a)) ⌝ }
+    ensures { λ v. ⌜ verdict-of v ≡ then (verdict-of before) (judged (Calls.rows-line (Calls.live r) ∷ [])) ⌝ }
 {
     let Verdict::Go(plan, _) = before else {
         return before;
@@ -190,7 +186,7 @@ fn check_rows(before: Verdict, r: usize) -> Verdict
 // Number 6.
 fn check_count(before: Verdict, count: usize) -> Verdict
     requires { ⌜ Within32 before ⌝ }
-    ensures { λ r. ⌜ verdict-of r ≡ then (verdict-of before) (λ a. unless (ltb count (a .0 .w * a .0 .h)) 6 (accept a)) ⌝ }
+    ensures { λ r. ⌜ verdict-of r ≡ then (verdict-of before) (judged (Calls.count-line count ∷ [])) ⌝ }
 {
     let Verdict::Go(plan, _) = before else {
         return before;
@@ -205,7 +201,7 @@ fn check_count(before: Verdict, count: usize) -> Verdict
 
 // Numbers 7 and 8. The stride is turned here, once.
 fn check_plane(before: Verdict, size: usize, offset: u32, stride: ByteStride) -> Placed
-    ensures { λ r. ⌜ (placed-of r ≡ then (verdict-of before) (plane-check size offset (stride .0))) × Turned (stride .0) r ⌝ }
+    ensures { λ r. ⌜ (placed-of r ≡ then (verdict-of before) (judged (Calls.plane-lines size offset (stride .0)))) × Turned (stride .0) r ⌝ }
 {
     match before {
         Verdict::Stop(refusal) => Placed::Halt(refusal),
@@ -228,7 +224,7 @@ fn check_plane(before: Verdict, size: usize, offset: u32, stride: ByteStride) ->
 // Number 9.
 fn check_range(before: Placed, coeff: &[i32]) -> Placed
     requires { ⌜ Enough (length (now coeff)) before ⌝ }
-    ensures { λ r. ⌜ (placed-of r ≡ then (placed-of before) (range-check (now (coeff .entry)))) × Handed before r ⌝ }
+    ensures { λ r. ⌜ (placed-of r ≡ then (placed-of before) (judged (Calls.range-line (now (coeff .entry)) ∷ []))) × Handed before r ⌝ }
 {
     let Placed::At(plan, depth, _) = before else {
         return before;
@@ -246,7 +242,7 @@ fn check_range(before: Placed, coeff: &[i32]) -> Placed
 // Number 10.
 fn check_stray(before: Placed, coeff: &[i32], r: usize) -> Placed
     requires { ⌜ Enough (length (now coeff)) before × RowsIn r before ⌝ }
-    ensures { λ v. ⌜ (placed-of v ≡ then (placed-of before) (stray-check r (now (coeff .entry)))) × Handed before v ⌝ }
+    ensures { λ v. ⌜ (placed-of v ≡ then (placed-of before) (judged (Calls.stray-line (Calls.live r) (now (coeff .entry)) ∷ []))) × Handed before v ⌝ }
 {
     let Placed::At(plan, _, _) = before else {
         return before;

@@ -2,24 +2,24 @@
 use mathlib.Core.Path.{_≡_, refl, ap, _∙_, subst⁻¹}
 use mathlib.Core.Bool.{Bool, true, false, cond}
 use mathlib.Core.List.{List}
+use mathlib.Core.Option.{some}
 use Prim.Native.Nat.{ℕ, _*_, _≤_, _<_}
 use native.Mathlib.Nat.{mul-le-mul}
 use native.Mathlib.Omega.{arith}
 use lib.Dec.{eqb, ltb}
 use lib.IntN.{ℤ}
 use lib.ListN.{length}
-use Rattle.whole.specs.Numbers.{outside, low, high}
-use Rattle.whole.specs.Lists.{at, first}
-use Rattle.whole.specs.Checks.{Check, accept, refuse, then, unless}
+use Rattle.whole.specs.Checks.{Check, accept, refuse, then, unless, unless-at, when, judged}
+use Rattle.whole.proofs.Checks.{open-then, open-unless}
 use Rattle.bitdepth.specs.declared.Depth.{Depth}
-use Rattle.bitdepth.specs.Depths.{depth, row-range}
+use Rattle.bitdepth.specs.Depths.{depth}
 use Rattle.levels.specs.declared.Plan.{Plan}
 use Rattle.levels.proofs.Types.{by-types}
 use Rattle.levels.specs.Plans.{among, shift-0, shift-1, shift-2, shift-of, kinds-of, with-kinds, with-shift, plan}
 use Rattle.levels.proofs.Sizes.{side-bounds, plan-sided}
 use Rattle.strided.specs.Planes.{bad-stride, row-outside}
 use Rattle.itx_1d.specs.Calls.{Answer}
-use Rattle.itx.specs.Calls.{Block, Call, bad-eob, bad-rows, stray, checks, verdict, spec-verdict, with-adst, short, outcome-of, by-shortcut, by-passes, live-rows, outcome, Meets}
+use Rattle.itx.specs.Calls.{Block, Call, plain, live, bad-eob, bad-rows, out-of-range, stray, table, checked, verdict, spec-verdict, with-adst, short, outcome-of, by-shortcut, by-passes, live-rows, outcome, Meets}
 use Rattle.itx.specs.Av1.{av1-way}
 use Rattle.itx.specs.Spec.{SpecMeets, spec-outcome}
 use Rattle.residual.specs.Blocks.{Way, way}
@@ -47,36 +47,49 @@ small-plan w h type = small-then (shift-of w h) (with-shift w h type) (small-shi
 pub small-depth : (n : ℕ) → Small (depth n)
 small-depth n = small-cond (eqb n 8) _ _ tt (small-cond (eqb n 10) _ _ tt (small-cond (eqb n 12) _ _ tt (omega arith)))
 
+small-when : {A : Type 0} (t : Bool) (n : ℕ) (c : Check A) → Small c → Small (unless-at (when t) n c)
+small-when true n c s = omega arith
+small-when false n c s = s
+
+stray-below : (call : Call) (p : Plan) (c : List ℤ) → p .w * p .h ≤ 1024 → (i : ℕ) → stray call p c ≡ some i → i < 1024
+stray-below (plain eob) p c l i e = let z : _≡_ {A = ℕ} 0 1 = cc in let f : ⊥ = omega arith in absurd f
+stray-below (live r) p c l i e = omega (arith, first-below (p .w * p .h) _ i e)
+
 module _ (call : Call) (b : Block) where
-  small-checks : (p : Plan) (d : Depth) → p .w * p .h ≤ 1024 → Small (checks call b p d)
-  small-checks p d l =
+  small-table : (p : Plan) (d : Depth) → p .w * p .h ≤ 1024 → Small (judged (table call b) (p, d))
+  small-table p d l =
       let n = p .w * p .h in
-      let f : ℕ → Bool = λ i. outside (at (b .coefs) i) (low (row-range d)) (high (row-range d)) in
-      let g : ℕ → Bool = stray call (p .h) (b .coefs) in
-      small-unless (bad-eob call) 4 _
-      (small-unless (bad-rows call (p .h)) 5 _
-      (small-unless (ltb (length (b .coefs)) n) 6 _
-      (small-unless (bad-stride (p .w) (b .plane .stride)) 7 _
-      (small-unless (row-outside (p .w) (p .h) (b .plane)) 8 _
-      (small-at (first n f) 9 _ (λ i e. omega (arith, first-below n f i e))
-      (small-at (first n g) 10 (accept (p, d)) (λ i e. omega (arith, first-below n g i e))
-      tt))))))
+      let c = b .coefs in
+      small-when (bad-eob call) 4 _
+      (small-when (bad-rows call (p .h)) 5 _
+      (small-when (ltb (length c) n) 6 _
+      (small-when (bad-stride (p .w) (b .plane .stride)) 7 _
+      (small-when (row-outside (p .w) (p .h) (b .plane)) 8 _
+      (small-at (out-of-range (p, d) c) 9 _ (λ i e. omega (arith, first-below n _ i e))
+      (small-at (stray call p c) 10 (accept (p, d)) (stray-below call p c l) tt))))))
+
+  small-checked : (k : Check Plan) → Small k → ((p : Plan) → k ≡ accept p → p .w * p .h ≤ 1024) → Small (checked call b k)
+  small-checked (refuse n i) s l = s
+  small-checked (accept p) s l = go (depth (b .depth)) (small-depth (b .depth))
+    where
+      go : (o : Check Depth) → Small o → Small (then (then o (λ d. accept (p, d))) (judged (table call b)))
+      go (refuse n i) s = s
+      go (accept d) s = small-table p d (l p refl)
 
   area : (p : Plan) → plan (b .w) (b .h) (b .type) ≡ accept p → p .w * p .h ≤ 1024
   area p e =
       let s = plan-sided (b .w) (b .h) (b .type) p e in
       mul-le-mul (side-bounds (p .w) (s .0) .1) (side-bounds (p .h) (s .1) .1)
 
-  small-rest : (p : Plan) → plan (b .w) (b .h) (b .type) ≡ accept p → Small (then (depth (b .depth)) (checks call b p))
-  small-rest p e = small-then (depth (b .depth)) (checks call b p) (small-depth (b .depth)) (λ d f. small-checks p d (area p e))
-
   small-verdict : Small (verdict call b)
-  small-verdict = small-then (plan (b .w) (b .h) (b .type)) (λ p. then (depth (b .depth)) (checks call b p)) (small-plan (b .w) (b .h) (b .type)) small-rest
+  small-verdict = small-checked (plan (b .w) (b .h) (b .type)) (small-plan (b .w) (b .h) (b .type)) area
 
   small-spec-verdict : Small (spec-verdict call b)
   small-spec-verdict =
-      small-then (plan (b .w) (b .h) (b .type)) (λ p. unless (with-adst p) 2 (then (depth (b .depth)) (checks call b p))) (small-plan (b .w) (b .h) (b .type))
-      (λ p e. small-unless (with-adst p) 2 (then (depth (b .depth)) (checks call b p)) (small-rest p e))
+      let k = plan (b .w) (b .h) (b .type) in
+      small-checked (then k (λ p. unless (with-adst p) 2 (accept p)))
+      (small-then k _ (small-plan (b .w) (b .h) (b .type)) (λ p e. small-unless (with-adst p) 2 (accept p) tt))
+      (λ p e. let f = open-then k _ p e in let g = open-unless (with-adst (f .0)) 2 (accept (f .0)) p (f .2) in area p (f .1 ∙ g .1))
 
   -- an acceptance has place 0
   module _ (engine : Plan → Depth → Way) where

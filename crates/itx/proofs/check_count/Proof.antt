@@ -1,13 +1,13 @@
 -- `itx::check_count` meets its contract.
-use mathlib.Core.Path.{subst}
-use Prim.Native.Nat.{_*_, _≤_}
+use mathlib.Core.Path.{sym, ap, subst}
 use native.Mathlib.Nat.{mul-le-mul}
 use native.Mathlib.Omega.{arith}
-use lib.Dec.{ltb}
 use borrow.Author.Needs.{needs}
 use borrow.Author.Tests.{lt-ltb, le-ltb}
+use Rattle.whole.specs.Checks.{when}
 use Rattle.itx.specs.Answers.{Within32}
-use Rattle.itx.proofs.Opening.{refuses, takes}
+use Rattle.itx.specs.Calls.{count-line}
+use Rattle.itx.proofs.Opening.{decides}
 use Rattle.itx.proofs.check_count.Statement.{statement}
 use Rattle.itx.proofs.check_count.Tie as tie
 
@@ -26,5 +26,5 @@ check-count-spec =
     (λ c. search needs)
     (λ c. search needs)
     mul-if1
-    (λ c. let s = c .before .before .before .before in refuses 6 (λ a. ltb (s .args .count) (a .0 .w * a .0 .h)) (c .before .before .before2 .given .1) (lt-ltb _ _ (c .if1 .taken)))
-    (λ c. let s = c .before .before .before .before in takes 6 (λ a. ltb (s .args .count) (a .0 .w * a .0 .h)) (c .before .before .before2 .given .1) (le-ltb _ _ (c .if1 .left))))
+    (λ c. let s = c .before .before .before .before in decides (count-line (s .args .count)) (c .before .before .before2 .given .1) (ap when (sym (lt-ltb _ _ (c .if1 .taken)))))
+    (λ c. let s = c .before .before .before .before in decides (count-line (s .args .count)) (c .before .before .before2 .given .1) (ap when (sym (le-ltb _ _ (c .if1 .left))))))

@@ -1,17 +1,17 @@
 -- `itx::check_depth` meets its contract.
 use mathlib.Core.Path.{_≡_, sym, ap, _∙_}
 use borrow.Author.Needs.{needs}
-use Rattle.whole.specs.Checks.{Check, then}
+use Rattle.whole.specs.Checks.{Check, accept, then}
 use Rattle.bitdepth.specs.declared.Depth.{Depth}
 use Rattle.bitdepth.specs.declared.DepthCheck.{DepthCheck}
-use Rattle.bitdepth.specs.Depths.{check-of, depth}
-use Rattle.itx.proofs.Opening.{paired}
+use Rattle.bitdepth.specs.Depths.{check-of}
+use Rattle.itx.specs.Calls.{with-depth}
 use Rattle.itx.proofs.check_depth.Statement.{statement}
 use Rattle.itx.proofs.check_depth.Tie as tie
 
 -- with what `Depth::of` answered
-with-depth : (o : tie.After-of) (k : DepthCheck) → o .of .result ≡ k → then (check-of k) (paired (o .before .args .plan)) ≡ then (depth (o .before .args .depth)) (paired (o .before .args .plan))
-with-depth o k e = ap (λ (c : Check Depth). then c (paired (o .before .args .plan))) (ap check-of (sym e) ∙ o .of .ensures)
+told : (o : tie.After-of) (k : DepthCheck) → o .of .result ≡ k → then (check-of k) (λ d. accept (o .before .args .plan, d)) ≡ with-depth (o .before .args .depth) (o .before .args .plan)
+told o k e = ap (λ (c : Check Depth). then c (λ d. accept (o .before .args .plan, d))) (ap check-of (sym e) ∙ o .of .ensures)
 
 pub check-depth-spec : {M : Type 1} → statement M
 check-depth-spec =
@@ -20,5 +20,5 @@ check-depth-spec =
     (λ c κs. search needs)
     (λ c. search needs)
     (λ c. search needs)
-    (λ c. with-depth (c .before .before) _ (c .enum-told .given .1))
-    (λ c. with-depth (c .before .before .before) _ (c .before .checked .given .1)))
+    (λ c. told (c .before .before) _ (c .enum-told .given .1))
+    (λ c. told (c .before .before .before) _ (c .before .checked .given .1)))

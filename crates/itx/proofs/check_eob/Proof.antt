@@ -1,8 +1,10 @@
 -- `itx::check_eob` meets its contract.
-use mathlib.Core.Bool.{not}
-use lib.Signed.{nonNeg}
+use mathlib.Core.Path.{sym, ap, _∙_}
 use borrow.Author.Needs.{needs}
-use Rattle.itx.proofs.Opening.{refuses, goes-on, negative}
+use Rattle.whole.specs.Checks.{when}
+use Rattle.itx.specs.Answers.{verdict-of}
+use Rattle.itx.specs.Calls.{plain, eob-line}
+use Rattle.itx.proofs.Opening.{decides, negative}
 use Rattle.itx.proofs.check_eob.Statement.{statement}
 use Rattle.itx.proofs.check_eob.Tie as tie
 
@@ -13,5 +15,5 @@ check-eob-spec =
     (λ c. search needs)
     (λ c. search needs)
     (λ c. search needs)
-    (λ c. let s = c .before .before .before in refuses 4 (λ a. not (nonNeg (s .args .eob))) (c .before .enum-told .given .1) (negative (s .args .eob) (s .fits .eob) (c .if1 .taken)))
-    (λ c. let s = c .before .before .before in goes-on 4 (λ a. not (nonNeg (s .args .eob))) (c .before .enum-told .given .1) (negative (s .args .eob) (s .fits .eob) (c .if1 .left))))
+    (λ c. let s = c .before .before .before in decides (eob-line (plain (s .args .eob))) (c .before .enum-told .given .1) (ap when (sym (negative (s .args .eob) (s .fits .eob) (c .if1 .taken)))))
+    (λ c. let s = c .before .before .before in ap verdict-of (c .before .enum-told .given .1) ∙ decides (eob-line (plain (s .args .eob))) (c .before .enum-told .given .1) (ap when (sym (negative (s .args .eob) (s .fits .eob) (c .if1 .left))))))

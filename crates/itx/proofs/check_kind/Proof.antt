@@ -2,18 +2,17 @@
 use mathlib.Core.Path.{_≡_, sym, ap, _∙_}
 use borrow.Author.Needs.{needs}
 use Rattle.whole.specs.Checks.{Check, then}
-use Rattle.bitdepth.specs.Depths.{depth}
 use Rattle.levels.specs.declared.Decision.{Decision}
 use Rattle.levels.specs.declared.Plan.{Plan}
 use Rattle.levels.specs.Plans.{decision-of, plan}
-use Rattle.itx.proofs.Opening.{paired}
+use Rattle.itx.specs.Calls.{with-depth}
 use Rattle.itx.proofs.check_kind.Statement.{statement}
 use Rattle.itx.proofs.check_kind.Tie as tie
 
 -- with what `Plan::of` answered
 with-plan : (o : tie.After-of) (k : Decision) → o .of .result ≡ k → let s = o .before in
-    then (decision-of k) (λ p. then (depth (s .args .depth)) (paired p)) ≡ then (plan (s .args .w) (s .args .h) (s .args .txtp)) (λ p. then (depth (s .args .depth)) (paired p))
-with-plan o k e = let s = o .before in ap (λ (c : Check Plan). then c (λ p. then (depth (s .args .depth)) (paired p))) (ap decision-of (sym e) ∙ o .of .ensures)
+    then (decision-of k) (with-depth (s .args .depth)) ≡ then (plan (s .args .w) (s .args .h) (s .args .txtp)) (with-depth (s .args .depth))
+with-plan o k e = let s = o .before in ap (λ (c : Check Plan). then c (with-depth (s .args .depth))) (ap decision-of (sym e) ∙ o .of .ensures)
 
 pub check-kind-spec : {M : Type 1} → statement M
 check-kind-spec =

@@ -1,10 +1,9 @@
 -- `itx::check_plane` meets its contract.
 use mathlib.Core.Path.{_≡_, refl, sym, ap, _∙_}
 use mathlib.Core.Bool.{Bool, true, false}
-use Prim.Native.Nat.{ℕ}
 use lib.IntN.{ℤ}
 use borrow.Author.Needs.{needs}
-use Rattle.whole.specs.Checks.{Check, accept, refuse, then, unless}
+use Rattle.whole.specs.Checks.{accept, then, unless, unless-at, when, judged}
 use Rattle.whole.proofs.Checks.{refused-by, open-unless, same-accept}
 use Rattle.bitdepth.specs.declared.Depth.{Depth}
 use Rattle.levels.specs.declared.Plan.{Plan}
@@ -14,15 +13,16 @@ use Rattle.strided.specs.declared.StrideCheck.{StrideCheck}
 use Rattle.strided.specs.declared.StrideCheck.the-variants.{Pixels, Refused}
 use Rattle.strided.specs.Planes.{in-pixels, bad-stride, rows-outside, turned, stride-check, rows-check}
 use Rattle.itx.specs.declared.Verdict.{Verdict}
-use Rattle.itx.specs.Answers.{verdict-of, plane-check}
+use Rattle.itx.specs.Answers.{verdict-of}
+use Rattle.itx.specs.Calls.{plane-lines}
 use Rattle.itx.proofs.Opening.{opened}
 use Rattle.itx.proofs.check_plane.Statement.{statement}
 use Rattle.itx.proofs.check_plane.Tie as tie
 
 -- the two tests, for the plan that was handed over
 tested : (s : tie.Start) {p : Plan} {d : Depth} (t u : Bool) → s .args .before ≡ Verdict.Go p d → bad-stride (p .w) (s .args .stride .0) ≡ t → rows-outside (s .args .size) (s .args .offset) (in-pixels (s .args .stride .0)) (p .w) (p .h) ≡ u
-    → unless t 7 (unless u 8 (accept (p, d))) ≡ then (verdict-of (s .args .before)) (plane-check (s .args .size) (s .args .offset) (s .args .stride .0))
-tested s {p} {d} t u e a b = (λ i. unless (sym a i) 7 (unless (sym b i) 8 (accept (p, d)))) ∙ opened (plane-check (s .args .size) (s .args .offset) (s .args .stride .0)) e
+    → unless-at (when t) 7 (unless-at (when u) 8 (accept (p, d))) ≡ then (verdict-of (s .args .before)) (judged (plane-lines (s .args .size) (s .args .offset) (s .args .stride .0)))
+tested s {p} {d} t u e a b = (λ i. unless-at (when (sym a i)) 7 (unless-at (when (sym b i)) 8 (accept (p, d)))) ∙ opened (judged (plane-lines (s .args .size) (s .args .offset) (s .args .stride .0))) e
 
 -- what the stride's answer told, and what the rows' answer told
 abbrev begun : tie.After-in-pixels → tie.Start
@@ -86,5 +86,5 @@ check-plane-spec =
     (λ c. search needs)
     (λ c. search needs)
     returns-2
-    (λ c. let s = c .before .before .before in (ap (λ (v : Verdict). then (verdict-of v) (plane-check (s .args .size) (s .args .offset) (s .args .stride .0))) (sym (c .before .before2 .given .1)), tt))
+    (λ c. let s = c .before .before .before in (ap (λ (v : Verdict). then (verdict-of v) (judged (plane-lines (s .args .size) (s .args .offset) (s .args .stride .0)))) (sym (c .before .before2 .given .1)), tt))
     returns-4)

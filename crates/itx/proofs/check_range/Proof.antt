@@ -1,38 +1,34 @@
 -- `itx::check_range` meets its contract.
 use mathlib.Core.Path.{_≡_, sym, ap, _∙_, subst}
-use mathlib.Core.Option.{Option}
+use mathlib.Core.List.{[], _∷_}
 use Prim.Native.Nat.{ℕ, _*_}
 use lib.IntN.{ℤ}
-use lib.ListN.{length}
-use mir.Syntax.{w32}
-use mir.Val.{toZ, ofZ}
 use borrow.Author.Needs.{needs}
-use Rattle.whole.specs.Numbers.{outside, low, high}
+use Rattle.whole.specs.Numbers.{outside}
 use Rattle.whole.specs.Lists.{at, first}
-use Rattle.whole.specs.Checks.{Check, accept, then, unless-at}
+use Rattle.whole.specs.Checks.{Line, judged}
 use Rattle.bitdepth.specs.declared.Depth.{Depth}
-use Rattle.bitdepth.specs.Depths.{row-range}
 use Rattle.coefs.specs.declared.Found.{Found}
 use Rattle.coefs.specs.Coefs.{found}
 use Rattle.levels.specs.declared.Plan.{Plan}
 use Rattle.residual.proofs.Ends.{row-reach, lo-is, hi-is}
-use Rattle.itx.specs.declared.Placed.{Placed}
-use Rattle.itx.specs.Answers.{placed-of, range-check, Enough}
-use Rattle.itx.proofs.Opening.{halted, searched}
+use Rattle.itx.specs.Answers.{Enough}
+use Rattle.itx.specs.Calls.{range-line}
+use Rattle.itx.proofs.Opening.{halted, decides-at}
 use Rattle.itx.proofs.check_range.Statement.{statement}
 use Rattle.itx.proofs.check_range.Tie as tie
 
 abbrev begun : tie.After-known-told → tie.Start
 begun o = o .before .before .before
 
-abbrev offender : tie.Start → Plan × Depth → Option ℕ
-offender s a = first (a .0 .w * a .0 .h) (λ i. outside (at (s .args .coeff .now) i) (low (row-range (a .1))) (high (row-range (a .1))))
+abbrev line : tie.Start → Line (Plan × Depth)
+line s = range-line (s .args .coeff .now)
 
 abbrev handed : tie.After-known-told → Plan × Depth
 handed o = (o .before .before2 .given .0 .0, o .before .before2 .given .0 .1 .0)
 
 -- what the search found, in the ends that the depth has
-told : (o : tie.After-first-outside) {k : Found} → o .first-outside .result ≡ k → found k ≡ offender (begun (o .before .before .before .before)) (handed (o .before .before .before .before))
+told : (o : tie.After-first-outside) {k : Found} → o .first-outside .result ≡ k → found k ≡ line (begun (o .before .before .before .before)) .1 (handed (o .before .before .before .before))
 told o {k} e =
     let a = o .before .before .before .before in
     let m = row-reach (handed a .1) in
@@ -47,7 +43,7 @@ check-range-spec =
     (tie.spec
     (λ c. search needs)
     (λ c. search needs)
-    (λ c. halted (range-check (c .before .before .args .coeff .now)) (c .enum-told .given .1))
+    (λ c. halted (judged (line (c .before .before) ∷ [])) (c .enum-told .given .1))
     (λ c κs. search needs)
     (λ c κs. subst (Enough _) (c .before .before .before .before .before2 .given .1) (c .before .before .before .before .before .before .pre))
     (λ c. search needs)
@@ -56,8 +52,8 @@ check-range-spec =
     let o = c .before .before in
     let a = o .before .before .before .before in
     let e = a .before .before2 .given .1 in
-    (searched 9 (offender (begun a)) e (told o (c .enum-told2 .given .1)), e))
+    (decides-at (line (begun a)) e (told o (c .enum-told2 .given .1)), e))
     (λ c.
     let o = c .before .before .before in
     let a = o .before .before .before .before in
-    (searched 9 (offender (begun a)) (a .before .before2 .given .1) (told o (c .before .found .given .1)), tt)))
+    (decides-at (line (begun a)) (a .before .before2 .given .1) (told o (c .before .found .given .1)), tt)))

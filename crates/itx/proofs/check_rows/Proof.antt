@@ -1,9 +1,10 @@
 -- `itx::check_rows` meets its contract.
-use mathlib.Core.Path.{ap}
-use mathlib.Core.Bool.{not, _&&_}
-use lib.Dec.{leb}
+use mathlib.Core.Path.{sym, ap}
+use mathlib.Core.Bool.{Bool, not}
 use borrow.Author.Needs.{needs}
-use Rattle.itx.proofs.Opening.{refuses, takes}
+use Rattle.whole.specs.Checks.{when}
+use Rattle.itx.specs.Calls.{live, rows-line}
+use Rattle.itx.proofs.Opening.{decides}
 use Rattle.itx.proofs.check_rows.Statement.{statement}
 use Rattle.itx.proofs.check_rows.Tie as tie
 
@@ -14,5 +15,5 @@ check-rows-spec =
     (λ c. search needs)
     (λ c. search needs)
     (λ c. search needs)
-    (λ c. let s = c .before .before .before .before in takes 5 (λ a. not (leb 1 (s .args .r) && leb (s .args .r) (a .0 .h))) (c .before .before .before2 .given .1) (ap not (c .if1 .taken)))
-    (λ c. let s = c .before .before .before .before in refuses 5 (λ a. not (leb 1 (s .args .r) && leb (s .args .r) (a .0 .h))) (c .before .before .before2 .given .1) (ap not (c .if1 .left))))
+    (λ c. let s = c .before .before .before .before in decides (rows-line (live (s .args .r))) (c .before .before .before2 .given .1) (ap (λ (t : Bool). when (not t)) (sym (c .if1 .taken))))
+    (λ c. let s = c .before .before .before .before in decides (rows-line (live (s .args .r))) (c .before .before .before2 .given .1) (ap (λ (t : Bool). when (not t)) (sym (c .if1 .left)))))
