@@ -1,10 +1,10 @@
 -- What is done with a record: document 01's plain call on the record's own pixels, as a plane with offset 0 and a byte stride of 2w.
 use mathlib.Core.Bool.{cond}
 use mathlib.Core.List.{List}
-use Prim.Native.Nat.{ℕ, _*_}
+use Prim.Native.Nat.{ℕ}
 use lib.Dec.{eqb}
 use lib.IntN.{pos}
-use Rattle.strided.specs.Planes.{lent}
+use Rattle.strided.specs.Planes.{lent, whole}
 use Rattle.itx.specs.Calls.{Outcome, plain, outcome}
 use Rattle.itx.specs.Answers as Answers
 use Rattle.blockfile.specs.Record.{Block, block}
@@ -15,7 +15,7 @@ use Rattle.blockfile.specs.Loop.{Step, step}
 abbrev pub call : Block → Outcome
 call b =
     let h = b .head in
-    outcome (plain (pos (h .eob))) (Answers.block (h .w) (h .h) (h .txtp) (h .depth) (b .coefficients) (lent (b .pixels) 0 (pos (2 * h .w))))
+    outcome (plain (pos (h .eob))) (Answers.block (h .w) (h .h) (h .txtp) (h .depth) (b .coefficients) (lent (b .pixels) (whole (h .w))))
 
 unfoldable pub left : Block → Outcome → Done Block
 left b o = cond (eqb (o .answer .number) 0) (done (record { head = b .head; coefficients = o .coefs; pixels = o .pixels })) (bad (o .answer .number))

@@ -13,6 +13,7 @@ use crate::record::read_record;
 use crate::record::write_record;
 use itx::inv_txfm_add;
 use strided::ByteStride;
+use strided::View;
 
 // What a step did: it wrote the first number or a record, `next` being the place after what it read and `put` the place after what it
 // wrote; it wants more bytes; it found the end of the file; or the number of a refusal.
@@ -50,13 +51,16 @@ fn act(head: Head, coefficients: &mut [i32], pixels: &mut [u16]) -> u8
     requires { ⌜ Small head ⌝ }
     ensures { λ r. ⌜ Acted head (now (coefficients .entry)) (now (pixels .entry)) (now (coefficients .exit)) (now (pixels .exit)) r ⌝ }
 {
-    let stride = ByteStride((2 * head.w) as i32);
+    let view = View {
+        offset: 0,
+        stride: ByteStride((2 * head.w) as i32),
+    };
     let w = head.w as usize;
     let h = head.h as usize;
     let txtp = head.txtp as usize;
     let depth = head.depth as usize;
     let eob = head.eob as i32;
-    let answer = inv_txfm_add(pixels, 0, stride, coefficients, eob, w, h, txtp, depth);
+    let answer = inv_txfm_add(pixels, view, coefficients, eob, w, h, txtp, depth);
     itx::number(answer)
 }
 

@@ -27,15 +27,16 @@ use Rattle.levels.specs.declared.Plan.{Plan}
 use Rattle.levels.specs.Plans.{among, shift-0, shift-1, shift-2, shift-of, Sizes, every, small, only-4x4, has, TxType, kinds-of, plan}
 use Rattle.levels.proofs.Sizes.{plan-of, plan-sided}
 use Rattle.levels.proofs.Types.{by-types}
-use Rattle.strided.specs.Planes.{in-pixels, rows-outside, lent}
+use Rattle.strided.specs.Planes.{spot, spot-outside}
+use Rattle.strided.specs.declared.Spot.{Spot}
 use Rattle.residual.specs.declared.Engine.{Engine}
-use Rattle.residual.specs.Blocks.{way-by}
+use Rattle.residual.specs.Blocks.{way-by, residual, shortcut}
 use Rattle.residual.specs.Inner.{Sized}
 use Rattle.residual.proofs.Ends.{row-reach, size}
 use Rattle.itx.specs.declared.Refusal.{Refusal}
 use Rattle.itx.specs.Calls.{Block, Call, Outcome, Leaves, verdict, outcome-of, short, live-rows, by-shortcut, by-passes}
 use Rattle.itx.specs.Demands.{Accepted}
-use Rattle.itx.specs.Answers.{number, place, block, Ready, Passed, Shortened}
+use Rattle.itx.specs.Answers.{number, place, added, Ready, Passed, Shortened}
 use Rattle.itx.proofs.Verdicts.{accepting}
 
 -- ---- a plan's kinds fit its sides
@@ -110,47 +111,54 @@ sized w h type p e =
 
 -- ---- a block as a call is given it
 
-module _ (e : Engine) (call : Call) (w h type depth offset : ℕ) (bytes : ℤ) (ps : List ℕ) (c : List ℤ) where
-  abbrev given : Block
-  given = block w h type depth c (lent ps offset bytes)
+module _ (e : Engine) (call : Call) (b : Block) where
+  abbrev ps : List ℕ
+  ps = b .plane .pixels
+
+  abbrev c : List ℤ
+  c = b .coefs
 
   -- what the call leaves by the engine
   abbrev pub left : Outcome
-  left = outcome-of (way-by e) call given (verdict call given)
+  left = outcome-of (way-by e) call b (verdict call b)
 
-  pub refusal-left : (r : Refusal) → verdict call given ≡ refuse (number r) (place r) → Leaves left (Rattle.itx_1d.specs.Calls.refusal (number r) (place r)) ps c
+  pub refusal-left : (r : Refusal) → verdict call b ≡ refuse (number r) (place r) → Leaves left (Rattle.itx_1d.specs.Calls.refusal (number r) (place r)) ps c
   refusal-left r f =
-      let o = ap (outcome-of (way-by e) call given) (sym f) in
+      let o = ap (outcome-of (way-by e) call b) (sym f) in
       record { answer-is = ap (λ (o : Outcome). o .answer) o; pixels-are = ap (λ (o : Outcome). o .pixels) o; coefs-are = ap (λ (o : Outcome). o .coefs) o }
 
-  module _ (p : Plan) (d : Depth) (a : Accepted call given p d) (stride : ℤ) (turned : stride ≡ in-pixels bytes) where
-    pub ready : Ready p offset stride ps c
+  module _ (p : Plan) (d : Depth) (a : Accepted call b p d) (s : Spot) (turned : s ≡ spot (b .plane .view)) where
+    pub ready : Ready p s ps c
     ready = record {
-      sized = sized w h type p (a .planned);
+      sized = sized (b .w) (b .h) (b .type) p (a .planned);
       coefs = record {
         count = ltb-false (length c) (p .w * p .h) (a .enough);
         small = λ i l. let m = row-reach d in inside-abs (at c i) (low (row-range d)) (high (row-range d)) (first-none (p .w * p .h) (λ i. outside (at c i) (low (row-range d)) (high (row-range d))) (a .ranged) i l) (omega (arith, size m, m .small)) (omega (arith, m .small));
       };
-      inside = ap (λ (z : ℤ). rows-outside (length ps) offset z (p .w) (p .h)) turned ∙ a .inside;
+      inside = ap (spot-outside (length ps) (p .w) (p .h)) turned ∙ a .placed .inside;
     }
 
     abbrev long : ℕ → Outcome
-    long r = by-passes given p d (way-by e p d) r
+    long r = by-passes b p d (way-by e p d) r
 
-    taken : (t : Bool) → short call p ≡ t → left ≡ cond t (by-shortcut given p d) (long (live-rows call p))
-    taken t f = ap (outcome-of (way-by e) call given) (accepting call given p d a) ∙ ap (λ (t : Bool). cond t (by-shortcut given p d) (long (live-rows call p))) f
+    taken : (t : Bool) → short call p ≡ t → left ≡ cond t (by-shortcut b p d) (long (live-rows call p))
+    taken t f = ap (outcome-of (way-by e) call b) (accepting call b p d a) ∙ ap (λ (t : Bool). cond t (by-shortcut b p d) (long (live-rows call p))) f
 
     -- the long way with r rows, where that leaves the same as with the call's
-    pub passes-left : (r : ℕ) {mark : Bool} {ps′ : List ℕ} {c′ : List ℤ} → short call p ≡ false → long r ≡ long (live-rows call p) → Passed e p d offset stride r ps c mark ps′ c′ → Leaves left (acceptance mark) ps′ c′
-    passes-left r s q m =
-        let o = q ∙ sym (taken false s) in
+    pub passes-left : (r : ℕ) {mark : Bool} {ps′ : List ℕ} {c′ : List ℤ} → short call p ≡ false → long r ≡ long (live-rows call p) → Passed e p d s r ps c mark ps′ c′ → Leaves left (acceptance mark) ps′ c′
+    passes-left r f q m =
+        let o = q ∙ sym (taken false f) in
         record {
           answer-is = ap acceptance (m .mark-is) ∙ ap (λ (o : Outcome). o .answer) o;
-          pixels-are = m .added .pixels-are bytes (sym turned) ∙ ap (λ (o : Outcome). o .pixels) o;
+          pixels-are = m .pixels-are ∙ ap (λ (s : Spot). added p d s ps (residual (way-by e p d) c r)) turned ∙ ap (λ (o : Outcome). o .pixels) o;
           coefs-are = m .coefs-are ∙ ap (λ (o : Outcome). o .coefs) o;
         }
 
-    pub shortcut-left : {ps′ : List ℕ} {c′ : List ℤ} → short call p ≡ true → Shortened p d offset stride ps c ps′ c′ → Leaves left (acceptance false) ps′ c′
-    shortcut-left s m =
-        let o = sym (taken true s) in
-        record { answer-is = ap (λ (o : Outcome). o .answer) o; pixels-are = m .added .pixels-are bytes (sym turned) ∙ ap (λ (o : Outcome). o .pixels) o; coefs-are = m .coefs-are ∙ ap (λ (o : Outcome). o .coefs) o }
+    pub shortcut-left : {ps′ : List ℕ} {c′ : List ℤ} → short call p ≡ true → Shortened p d s ps c ps′ c′ → Leaves left (acceptance false) ps′ c′
+    shortcut-left f m =
+        let o = sym (taken true f) in
+        record {
+          answer-is = ap (λ (o : Outcome). o .answer) o;
+          pixels-are = m .pixels-are ∙ ap (λ (s : Spot). added p d s ps (λ y x. shortcut p (at c 0))) turned ∙ ap (λ (o : Outcome). o .pixels) o;
+          coefs-are = m .coefs-are ∙ ap (λ (o : Outcome). o .coefs) o;
+        }

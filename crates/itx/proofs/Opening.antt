@@ -1,9 +1,11 @@
 -- A check after one that went well.
-use mathlib.Core.Path.{_≡_, refl, sym, ap, _∙_, subst, subst⁻¹}
+use mathlib.Core.Path.{_≡_, refl, sym, ap, _∙_, subst}
 use mathlib.Core.Bool.{Bool, not}
 use mathlib.Core.List.{[], _∷_}
 use mathlib.Core.Option.{Option}
 use Prim.Native.Nat.{ℕ}
+use denote.Enum.Declared.{tagOf}
+use types.Run.{OneOf, miss}
 use lib.IntN.{ℤ, pos, negsuc}
 use lib.Signed.{ltZ, nonNeg}
 use mir.Syntax.{w32}
@@ -14,27 +16,19 @@ use native.Mathlib.Omega.{arith}
 use Rattle.whole.specs.Checks.{Check, accept, then, unless-at, Line, judged}
 use Rattle.bitdepth.specs.declared.Depth.{Depth}
 use Rattle.levels.specs.declared.Plan.{Plan}
-use Rattle.strided.specs.declared.PixelStride.{PixelStride}
 use Rattle.itx.specs.declared.Refusal.{Refusal}
 use Rattle.itx.specs.declared.Verdict.{Verdict}
-use Rattle.itx.specs.declared.Verdict.the-variants.{Go}
-use Rattle.itx.specs.declared.Placed.{Placed}
-use Rattle.itx.specs.declared.Placed.the-variants.{At, Halt}
-use Rattle.itx.specs.Answers.{verdict-of, placed-of, Handed, Turned}
+use Rattle.itx.specs.declared.Verdict.the-variants.{Go, At, Stop}
+use Rattle.itx.specs.Answers.{verdict-of, Asked, Handed}
+use Rattle.itx.proofs.Verdict.{the-type}
 
 -- the next check decides
-pub opened : {v : Verdict} {p : Plan} {d : Depth} (f : Plan × Depth → Check (Plan × Depth)) → v ≡ Go p d → f (p, d) ≡ then (verdict-of v) f
-opened f e = ap (λ (v : Verdict). then (verdict-of v) f) (sym e)
-
-pub opened-at : {v : Placed} {p : Plan} {d : Depth} {s : PixelStride} (f : Plan × Depth → Check (Plan × Depth)) → v ≡ At p d s → f (p, d) ≡ then (placed-of v) f
-opened-at f e = ap (λ (v : Placed). then (placed-of v) f) (sym e)
+pub opened : (v : Verdict) {p : Plan} {d : Depth} (f : Plan × Depth → Check (Plan × Depth)) → verdict-of v ≡ accept (p, d) → f (p, d) ≡ then (verdict-of v) f
+opened v f e = ap (λ k. then k f) (sym e)
 
 -- a line of the table decides by what it finds: it refuses, or hands on what it was given
-pub decides : {v : Verdict} {p : Plan} {d : Depth} {o : Option ℕ} (l : Line (Plan × Depth)) → v ≡ Go p d → o ≡ l .1 (p, d) → unless-at o (l .0) (accept (p, d)) ≡ then (verdict-of v) (judged (l ∷ []))
-decides {p = p} {d = d} l e q = (λ i. unless-at (q i) (l .0) (accept (p, d))) ∙ opened (judged (l ∷ [])) e
-
-pub decides-at : {v : Placed} {p : Plan} {d : Depth} {s : PixelStride} {o : Option ℕ} (l : Line (Plan × Depth)) → v ≡ At p d s → o ≡ l .1 (p, d) → unless-at o (l .0) (accept (p, d)) ≡ then (placed-of v) (judged (l ∷ []))
-decides-at {p = p} {d = d} l e q = (λ i. unless-at (q i) (l .0) (accept (p, d))) ∙ opened-at (judged (l ∷ [])) e
+pub decides : (v : Verdict) {p : Plan} {d : Depth} {o : Option ℕ} (l : Line (Plan × Depth)) → verdict-of v ≡ accept (p, d) → o ≡ l .1 (p, d) → unless-at o (l .0) (accept (p, d)) ≡ then (verdict-of v) (judged (l ∷ []))
+decides v {p = p} {d = d} l e q = (λ i. unless-at (q i) (l .0) (accept (p, d))) ∙ opened v (judged (l ∷ [])) e
 
 -- the code's test of a sign
 pub negative : (z : ℤ) {t : Bool} → SFits w32 z → ltZ (toZ w32 (ofZ w32 z)) (pos 0) ≡ t → not (nonNeg z) ≡ t
@@ -45,10 +39,19 @@ negative z f e = below z ∙ ap (λ (y : ℤ). ltZ y (pos 0)) (sym (toZ-ofZ w32 
     below (negsuc n) = refl
 
 -- a check that was told to stop hands that on
-pub halted : {v : Placed} {r : Refusal} (f : Plan × Depth → Check (Plan × Depth)) → v ≡ Halt r → (placed-of v ≡ then (placed-of v) f) × Handed v v
-halted f e = (ap placed-of e ∙ ap (λ (v : Placed). then (placed-of v) f) (sym e), subst⁻¹ (λ (v : Placed). Handed v v) e tt)
+pub stopped : (v : Verdict) (f : Plan × Depth → Check (Plan × Depth)) (F : Verdict → Type 0) → ((r : Refusal) → F (Stop r)) → OneOf (1 ∷ 2 ∷ []) (tagOf the-type v) → Asked v → (verdict-of v ≡ then (verdict-of v) f) × F v
+stopped (Go p d) f F g h a = absurd (miss (1 ∷ 2 ∷ []) 0 tt h)
+stopped (At p d s) f F g h a = absurd a
+stopped (Stop r) f F g h a = (refl, g r)
 
--- a stride that was turned stays so
-pub still-turned : (before after : Placed) (bytes : ℤ) → Handed before after → Turned bytes before → Turned bytes after
-still-turned before (At p d s) bytes e t = subst (Turned bytes) e t
-still-turned before (Halt r) bytes e t = tt
+-- of a search: what it was handed knows a place, or was told to stop
+pub halted : (v : Verdict) (f : Plan × Depth → Check (Plan × Depth)) (F : Verdict → Type 0) → ((p : Plan) (d : Depth) → F (Go p d) → ⊥) → OneOf (0 ∷ 2 ∷ []) (tagOf the-type v) → F v → (verdict-of v ≡ then (verdict-of v) f) × Handed v v
+halted (Go p d) f F g h a = absurd (g p d a)
+halted (At p d s) f F g h a = absurd (miss (0 ∷ 2 ∷ []) 1 tt h)
+halted (Stop r) f F g h a = (refl, tt)
+
+-- what a check hands on is still so
+pub handed-on : (F : Verdict → Type 0) (before after : Verdict) → ((r : Refusal) → F (Stop r)) → Handed before after → F before → F after
+handed-on F before (Go p d) g e f = absurd e
+handed-on F before (At p d s) g e f = subst F e f
+handed-on F before (Stop r) g e f = g r

@@ -16,10 +16,12 @@ use Rattle.itx_1d.specs.Calls.{Answer, acceptance}
 use Rattle.bitdepth.specs.declared.Depth.{Depth}
 use Rattle.bitdepth.specs.Depths.{maximum}
 use Rattle.levels.specs.declared.Plan.{Plan}
-use Rattle.strided.specs.Planes.{place}
+use Rattle.strided.specs.Planes.{spot, begins, place}
+use Rattle.strided.specs.declared.View.{View}
+use Rattle.strided.proofs.Rows.{row-fits, rows-apart}
 use Rattle.residual.specs.Blocks.{residual, marked, way, shortcut}
-use Rattle.pixels.specs.Adds.{add-pixel, add-rows}
-use Rattle.itx.specs.Calls.{Block, Call, verdict, Outcome, short, live-rows, by-shortcut, by-passes, outcome-of, outcome, Meets}
+use Rattle.pixels.specs.Adds.{add-pixel}
+use Rattle.itx.specs.Calls.{Block, Call, verdict, Outcome, short, live-rows, painted, by-shortcut, by-passes, outcome-of, outcome, Meets}
 use Rattle.itx.specs.Demands.{Accepted}
 use Rattle.pixels.proofs.Pixels.{rows-length, pixel-kept, pixel-set}
 use Rattle.itx.proofs.Sameness.{opened, area-positive}
@@ -49,24 +51,30 @@ module _ (call : Call) (b : Block) (p : Plan) (d : Depth) (a : Accepted call b p
   pub answer-is : outcome call b .answer ≡ acceptance (cond (short call p) false (marked (way p d) (b .coefs) (live-rows call p)))
   answer-is = either (λ (o : Outcome). o .answer) (λ (t : Bool). acceptance (cond t false (marked (way p d) (b .coefs) (live-rows call p)))) refl refl
 
-  pixels-are : outcome call b .pixels ≡ add-rows (b .plane) (maximum d) (added call b p d) (p .w) (p .h)
+  pixels-are : outcome call b .pixels ≡ painted (maximum d) (b .plane) (p .w) (p .h) (added call b p d)
   pixels-are =
       either (λ (o : Outcome). o .pixels)
-      (λ (t : Bool). add-rows (b .plane) (maximum d) (λ y x. cond t (shortcut p (at (b .coefs) 0)) (residual (way p d) (b .coefs) (live-rows call p) y x)) (p .w) (p .h)) refl refl
+      (λ (t : Bool). painted (maximum d) (b .plane) (p .w) (p .h) (λ y x. cond t (shortcut p (at (b .coefs) 0)) (residual (way p d) (b .coefs) (live-rows call p) y x))) refl refl
+
+  abbrev v : View
+  v = b .plane .view
+
+  abbrev size : ℕ
+  size = length (b .plane .pixels)
 
   -- the pixel rule
   pub pixel-rule : (y x : ℕ) → y < p .h → x < p .w
       → getD (outcome call b .pixels) (place (b .plane) y x) 0 ≡ add-pixel (maximum d) (getD (b .plane .pixels) (place (b .plane) y x) 0) (added call b p d y x)
   pixel-rule y x l g =
       ap (λ (ps : List ℕ). getD ps (place (b .plane) y x) 0) pixels-are
-      ∙ pixel-set (b .plane) (maximum d) (added call b p d) (p .w) (p .h) (a .stride) (a .inside) (p .h) y x (le-refl _) l g
+      ∙ pixel-set (maximum d) (b .plane .pixels) (begins (spot v)) (p .w) (p .h) (row-fits size (p .w) (p .h) v (a .placed)) (rows-apart size (p .w) (p .h) v (a .placed)) (added call b p d) (p .h) y x (le-refl _) l g
 
   -- every other pixel stays, and so does the number of pixels
   pub pixel-stays : (i : ℕ) → ((y x : ℕ) → y < p .h → x < p .w → i ≢ place (b .plane) y x) → getD (outcome call b .pixels) i 0 ≡ getD (b .plane .pixels) i 0
-  pixel-stays i f = ap (λ (ps : List ℕ). getD ps i 0) pixels-are ∙ pixel-kept (b .plane) (maximum d) (added call b p d) (p .w) (p .h) i f
+  pixel-stays i f = ap (λ (ps : List ℕ). getD ps i 0) pixels-are ∙ pixel-kept (maximum d) (b .plane .pixels) (begins (spot v)) (added call b p d) (p .w) (p .h) i f
 
   pub pixels-length : length (outcome call b .pixels) ≡ length (b .plane .pixels)
-  pixels-length = ap length pixels-are ∙ rows-length (b .plane) (maximum d) (added call b p d) (p .w) (p .h)
+  pixels-length = ap length pixels-are ∙ rows-length (maximum d) (b .plane .pixels) (begins (spot v)) (added call b p d) (p .w) (p .h)
 
   -- a coefficient past w·h stays
   pub coefficient-stays : (i : ℕ) → p .w * p .h ≤ i → at (outcome call b .coefs) i ≡ at (b .coefs) i

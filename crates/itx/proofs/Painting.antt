@@ -16,7 +16,8 @@ use Rattle.itx_1d.specs.Manners.{is-wht}
 use Rattle.itx_1d.specs.Inner.{Lined}
 use Rattle.bitdepth.specs.declared.Depth.{Depth}
 use Rattle.bitdepth.specs.Depths.{maximum}
-use Rattle.strided.specs.Planes.{lent, in-pixels, rows-outside}
+use Rattle.strided.specs.Planes.{begins, spot-outside}
+use Rattle.strided.specs.declared.Spot.{Spot}
 use Rattle.pixels.specs.Adds.{add-pixel, add-rows}
 use Rattle.pixels.specs.Inner.{left, Adding}
 use Rattle.pixels.proofs.Pixels.{rows-ext}
@@ -31,8 +32,8 @@ zeros-at zero i = refl
 zeros-at (suc n) zero = refl
 zeros-at (suc n) (suc i) = zeros-at n i
 
-module _ {e : Engine} {p : Plan} {d : Depth} {offset : ℕ} {stride : ℤ} {r : ℕ} {ps : List ℕ} {c : List ℤ} {n : ℕ} {t : List ℤ} {mark : Bool} (m : ResolvedIn n e p d c r t mark) where
-  pub adding : Sized p → p .h * p .w ≤ n → rows-outside (length ps) offset stride (p .w) (p .h) ≡ false → Adding offset stride (p .w) (p .w) (p .h) ps t
+module _ {e : Engine} {p : Plan} {d : Depth} {s : Spot} {r : ℕ} {ps : List ℕ} {c : List ℤ} {n : ℕ} {t : List ℤ} {mark : Bool} (m : ResolvedIn n e p d c r t mark) where
+  pub adding : Sized p → p .h * p .w ≤ n → spot-outside (length ps) (p .w) (p .h) s ≡ false → Adding s (p .w) (p .w) (p .h) ps t
   adding k room inside =
       record {
         height = side-bounds (p .h) (k .height) .1;
@@ -42,19 +43,16 @@ module _ {e : Engine} {p : Plan} {d : Depth} {offset : ℕ} {stride : ℤ} {r : 
       }
 
   pub painted : {top : ℕ} {ps′ : List ℕ} {c′ : List ℤ} → top ≡ maximum d
-      → ((bytes : ℤ) → in-pixels bytes ≡ stride → ps′ ≡ add-rows (lent ps offset bytes) top (λ y x. left (p .columns) (at t (y * p .w + x))) (p .w) (p .h))
-      → c′ ≡ replicate (p .w * p .h) (pos 0) ++ drop (p .w * p .h) c → Passed e p d offset stride r ps c mark ps′ c′
+      → ps′ ≡ add-rows top ps (begins s) (λ y x. left (p .columns) (at t (y * p .w + x))) (p .w) (p .h)
+      → c′ ≡ replicate (p .w * p .h) (pos 0) ++ drop (p .w * p .h) c → Passed e p d s r ps c mark ps′ c′
   painted top-is added cleared =
       let v : ℕ → ℕ → ℤ = λ y x. left (p .columns) (at t (y * p .w + x)) in
       let u = residual (way-by e p d) c r in
       record {
         mark-is = m .mark-is;
-        added = record {
-          pixels-are = λ bytes q.
-              added bytes q
-              ∙ ap (λ (q : ℕ). add-rows (lent ps offset bytes) q v (p .w) (p .h)) top-is
-              ∙ rows-ext (lent ps offset bytes) (maximum d) v u (p .w) (p .h) (λ y x l b. ap (add-pixel (maximum d) _) (ap (left (p .columns)) (m .elements y x l b)));
-        };
+        pixels-are =
+            added ∙ ap (λ (q : ℕ). add-rows q ps (begins s) v (p .w) (p .h)) top-is
+            ∙ rows-ext (maximum d) ps (begins s) v u (p .w) (p .h) (λ y x l b. ap (add-pixel (maximum d) _) (ap (left (p .columns)) (m .elements y x l b)));
         coefs-are = cleared;
       }
 
@@ -67,7 +65,7 @@ wht-planned p k e =
     λ i. record { w = wide i; h = high i; shift = p .shift; rows = e i; columns = both i }
 
 -- whose shift no step takes
-pub any-shift : {shift offset : ℕ} {stride : ℤ} {ps : List ℕ} {c : List ℤ} → Ready (wht-plan shift) offset stride ps c → Ready (wht-plan 0) offset stride ps c
+pub any-shift : {shift : ℕ} {s : Spot} {ps : List ℕ} {c : List ℤ} → Ready (wht-plan shift) s ps c → Ready (wht-plan 0) s ps c
 any-shift a =
     record {
       sized = record { width = refl; height = refl; shift-small = lit≤ tt; row-length = tt; column-length = tt; wht-both = λ t. refl };

@@ -18,6 +18,7 @@ use Rattle.bitdepth.specs.declared.Depth.{Depth}
 use Rattle.bitdepth.specs.Depths.{maximum}
 use Rattle.levels.specs.declared.Plan.{Plan}
 use Rattle.levels.proofs.Sizes.{Sided, side-bounds, plan-sided}
+use Rattle.strided.specs.Planes.{spot, begins}
 use Rattle.residual.specs.declared.Engine.{Engine}
 use Rattle.residual.specs.declared.Engine.the-variants.{First}
 use Rattle.residual.specs.Blocks.{way, way-by, residual}
@@ -77,7 +78,7 @@ module _ (b : Block) (p : Plan) (d : Depth) where
       let rs = residual 𝓦 (b .coefs) in
       λ i. record {
         answer = acceptance (marked-same 𝓦 (quiet e p d s) (b .coefs) r l k i);
-        pixels = rows-ext (b .plane) (maximum d) (rs r) (rs (p .h)) (p .w) (p .h) (λ y x g f. ap (add-pixel (maximum d) _) (residual-same 𝓦 (quiet e p d s) (b .coefs) r l k y x)) i;
+        pixels = rows-ext (maximum d) (b .plane .pixels) (begins (spot (b .plane .view))) (rs r) (rs (p .h)) (p .w) (p .h) (λ y x g f. ap (add-pixel (maximum d) _) (residual-same 𝓦 (quiet e p d s) (b .coefs) r l k y x)) i;
         coefs = replicate n (pos 0) ++ drop n (b .coefs);
       }
 
@@ -113,7 +114,7 @@ module _ (b : Block) (p : Plan) (d : Depth) where
   module _ (good : Accepted (plain (pos 0)) b p d) where
     -- with any eob, and with any covering count
     pub with-eob : (n : ℕ) → Accepted (plain (pos n)) b p d
-    with-eob n = record { planned = good .planned; deep = good .deep; eob = refl; rows = refl; enough = good .enough; stride = good .stride; inside = good .inside; ranged = good .ranged; covered = good .covered }
+    with-eob n = record { planned = good .planned; deep = good .deep; eob = refl; rows = refl; enough = good .enough; placed = good .placed; ranged = good .ranged; covered = good .covered }
 
     pub with-rows : (r : ℕ) → 1 ≤ r → r ≤ p .h → Covers (p .w) (p .h) (b .coefs) r → Accepted (live r) b p d
     with-rows r g l k = record {
@@ -122,8 +123,7 @@ module _ (b : Block) (p : Plan) (d : Depth) where
       eob = refl;
       rows = λ i. not (le-leb 1 r g i && le-leb r (p .h) l i);
       enough = good .enough;
-      stride = good .stride;
-      inside = good .inside;
+      placed = good .placed;
       ranged = good .ranged;
       covered = strays-none (p .w) (p .h) (h-positive (plain (pos 0)) good) (b .coefs) r k;
     }
@@ -133,7 +133,7 @@ module _ (b : Block) (p : Plan) (d : Depth) where
     live-checks r =
         let t = table (live r) b in
         ap (λ c. then (then c (with-depth (b .depth))) (judged t)) (good .planned) ∙ ap (λ c. then (then c (λ d. accept (p, d))) (judged t)) (good .deep)
-        ∙ (λ j. unless-at (when (bad-rows (live r) (p .h))) 5 (unless-at (when (good .enough j)) 6 (unless-at (when (good .stride j)) 7 (unless-at (when (good .inside j)) 8
+        ∙ (λ j. unless-at (when (bad-rows (live r) (p .h))) 5 (unless-at (when (good .enough j)) 6 (unless-at (when (good .placed .stride j)) 7 (unless-at (when (good .placed .inside j)) 8
         (unless-at (good .ranged j) 9 (unless-at (stray (live r) p (b .coefs)) 10 (accept (p, d))))))))
 
     -- a count in the bounds that does not cover is refused as stray, at the first stray's place

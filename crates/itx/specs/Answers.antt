@@ -10,7 +10,9 @@ use Rattle.whole.specs.Checks.{Check, accept, refuse}
 use Rattle.bitdepth.specs.declared.Depth.{Depth}
 use Rattle.bitdepth.specs.Depths.{maximum}
 use Rattle.levels.specs.declared.Plan.{Plan}
-use Rattle.strided.specs.Planes.{Plane, in-pixels, rows-outside, lent}
+use Rattle.strided.specs.Planes.{Plane, spot, begins, spot-outside}
+use Rattle.strided.specs.declared.Spot.{Spot}
+use Rattle.strided.specs.declared.View.{View}
 use Rattle.pixels.specs.Adds.{add-rows}
 use Rattle.residual.specs.declared.Engine.{Engine}
 use Rattle.residual.specs.Blocks.{way-by, residual, marked, shortcut}
@@ -22,9 +24,7 @@ use Rattle.itx.specs.declared.Answer.the-variants.{Done, Refused}
 use Rattle.itx.specs.declared.Refusal.{Refusal}
 use Rattle.itx.specs.declared.Refusal.the-variants.{NoSize, NoType, NoDepth, NegativeEob, NoSuchRows, FewCoefficients, BadStride, RowOutside, OutOfRange, Stray}
 use Rattle.itx.specs.declared.Verdict.{Verdict}
-use Rattle.itx.specs.declared.Verdict.the-variants.{Go, Stop}
-use Rattle.itx.specs.declared.Placed.{Placed}
-use Rattle.itx.specs.declared.Placed.the-variants.{At, Halt}
+use Rattle.itx.specs.declared.Verdict.the-variants.{Go, At, Stop}
 
 -- the table of "Numbers of refusal"
 abbrev pub number : Refusal → ℕ
@@ -60,34 +60,36 @@ answer-of (Refused r) = Passes.refusal (number r) (place r)
 
 abbrev pub verdict-of : Verdict → Check (Plan × Depth)
 verdict-of (Go p d) = accept (p, d)
+verdict-of (At p d s) = accept (p, d)
 verdict-of (Stop r) = refuse (number r) (place r)
 
-abbrev pub placed-of : Placed → Check (Plan × Depth)
-placed-of (At p d s) = accept (p, d)
-placed-of (Halt r) = refuse (number r) (place r)
+-- what a check may take for granted of what it is handed: before the plane was looked at ..
+abbrev pub Asked : Verdict → Type 0
+Asked (Go p d) = (p .w ≤ 32) × (p .h ≤ 32)
+Asked (At p d s) = ⊥
+Asked (Stop r) = Unit {0}
 
--- the stride that goes with a place is the one asked for, in pixels
-abbrev pub Turned : ℤ → Placed → Type 0
-Turned bytes (At p d s) = s .0 ≡ in-pixels bytes
-Turned bytes (Halt r) = Unit {0}
+-- .. and afterwards: the spot is the view asked for
+abbrev pub Lies : View → Verdict → Type 0
+Lies v (Go p d) = ⊥
+Lies v (At p d s) = s ≡ spot v
+Lies v (Stop r) = Unit {0}
 
--- what a check may take for granted of the plan it is handed
-abbrev pub Within32 : Verdict → Type 0
-Within32 (Go p d) = (p .w ≤ 32) × (p .h ≤ 32)
-Within32 (Stop r) = Unit {0}
-
-abbrev pub Enough : ℕ → Placed → Type 0
+abbrev pub Enough : ℕ → Verdict → Type 0
+Enough count (Go p d) = ⊥
 Enough count (At p d s) = p .w * p .h ≤ count
-Enough count (Halt r) = Unit {0}
+Enough count (Stop r) = Unit {0}
 
-abbrev pub RowsIn : ℕ → Placed → Type 0
+abbrev pub RowsIn : ℕ → Verdict → Type 0
+RowsIn r (Go p d) = ⊥
 RowsIn r (At p d s) = r ≤ p .h
-RowsIn r (Halt x) = Unit {0}
+RowsIn r (Stop x) = Unit {0}
 
 -- a later check hands on what it was given, or stops
-abbrev pub Handed : Placed → Placed → Type 0
+abbrev pub Handed : Verdict → Verdict → Type 0
+Handed before (Go p d) = ⊥
 Handed before (At p d s) = before ≡ At p d s
-Handed before (Halt r) = Unit {0}
+Handed before (Stop r) = Unit {0}
 
 -- ---- the block that a call is given
 
@@ -95,22 +97,22 @@ abbrev pub block : ℕ → ℕ → ℕ → ℕ → List ℤ → Plane → Block
 block w h type depth coefs plane = record { w = w; h = h; type = type; depth = depth; coefs = coefs; plane = plane }
 
 -- what the ways ask
-pub record Ready (p : Plan) (offset : ℕ) (stride : ℤ) (ps : List ℕ) (c : List ℤ) : Type 0 where
+pub record Ready (p : Plan) (s : Spot) (ps : List ℕ) (c : List ℤ) : Type 0 where
   pub sized : Sized p
   pub coefs : Coefs p c
-  pub inside : rows-outside (length ps) offset stride (p .w) (p .h) ≡ false
+  pub inside : spot-outside (length ps) (p .w) (p .h) s ≡ false
 
 -- what they leave: pixels ps and coefficients c become ps′ and c′
-pub record Added (p : Plan) (d : Depth) (offset : ℕ) (stride : ℤ) (ps : List ℕ) (v : ℕ → ℕ → ℤ) (ps′ : List ℕ) : Type 0 where
-  pub pixels-are : (bytes : ℤ) → in-pixels bytes ≡ stride → ps′ ≡ add-rows (lent ps offset bytes) (maximum d) v (p .w) (p .h)
+abbrev pub added : Plan → Depth → Spot → List ℕ → (ℕ → ℕ → ℤ) → List ℕ
+added p d s ps v = add-rows (maximum d) ps (begins s) v (p .w) (p .h)
 
-pub record Passed (e : Engine) (p : Plan) (d : Depth) (offset : ℕ) (stride : ℤ) (r : ℕ) (ps : List ℕ) (c : List ℤ) (mark : Bool) (ps′ : List ℕ) (c′ : List ℤ) : Type 0 where
+pub record Passed (e : Engine) (p : Plan) (d : Depth) (s : Spot) (r : ℕ) (ps : List ℕ) (c : List ℤ) (mark : Bool) (ps′ : List ℕ) (c′ : List ℤ) : Type 0 where
   pub mark-is : mark ≡ marked (way-by e p d) c r
-  pub added : Added p d offset stride ps (residual (way-by e p d) c r) ps′
+  pub pixels-are : ps′ ≡ added p d s ps (residual (way-by e p d) c r)
   pub coefs-are : c′ ≡ replicate (p .w * p .h) (pos 0) ++ drop (p .w * p .h) c
 
-pub record Shortened (p : Plan) (d : Depth) (offset : ℕ) (stride : ℤ) (ps : List ℕ) (c : List ℤ) (ps′ : List ℕ) (c′ : List ℤ) : Type 0 where
-  pub added : Added p d offset stride ps (λ y x. shortcut p (at c 0)) ps′
+pub record Shortened (p : Plan) (d : Depth) (s : Spot) (ps : List ℕ) (c : List ℤ) (ps′ : List ℕ) (c′ : List ℤ) : Type 0 where
+  pub pixels-are : ps′ ≡ added p d s ps (λ y x. shortcut p (at c 0))
   pub coefs-are : c′ ≡ set c 0 (pos 0)
 
 -- ---- the two engines

@@ -19,7 +19,8 @@ use Rattle.levels.specs.declared.Plan.{Plan}
 use Rattle.levels.specs.Plans.{plan}
 use Rattle.coefs.specs.Coefs.{in-dead-row}
 use Rattle.pixels.specs.Adds.{add-rows}
-use Rattle.strided.specs.Planes.{Plane, in-pixels, bad-stride, rows-outside}
+use Rattle.strided.specs.Planes.{Plane, spot, begins, bad-stride, spot-outside}
+use Rattle.strided.specs.declared.View.{View}
 use Rattle.residual.specs.Blocks.{Way, residual, marked, way, shortcut}
 
 pub record Block : Type 0 where
@@ -65,10 +66,10 @@ rows-line call = (5, λ a. when (bad-rows call (a .0 .h)))
 abbrev pub count-line : ℕ → Line (Plan × Depth)
 count-line count = (6, λ a. when (ltb count (a .0 .w * a .0 .h)))
 
-abbrev pub plane-lines : ℕ → ℕ → ℤ → List (Line (Plan × Depth))
-plane-lines size offset bytes =
-    (7, λ a. when (bad-stride (a .0 .w) bytes))
-    ∷ (8, λ a. when (rows-outside size offset (in-pixels bytes) (a .0 .w) (a .0 .h)))
+abbrev pub plane-lines : ℕ → View → List (Line (Plan × Depth))
+plane-lines size v =
+    (7, λ a. when (bad-stride (a .0 .w) (v .stride .0)))
+    ∷ (8, λ a. when (spot-outside size (a .0 .w) (a .0 .h) (spot v)))
     ∷ []
 
 abbrev pub range-line : List ℤ → Line (Plan × Depth)
@@ -89,8 +90,7 @@ module _ (call : Call) (b : Block) where
   abbrev pub table : List (Line (Plan × Depth))
   table =
       let c = b .coefs in
-      let a = b .plane in
-      eob-line call ∷ rows-line call ∷ count-line (length c) ∷ plane-lines (length (a .pixels)) (a .offset) (a .stride) ++ range-line c ∷ stray-line call c ∷ []
+      eob-line call ∷ rows-line call ∷ count-line (length c) ∷ plane-lines (length (b .plane .pixels)) (b .plane .view) ++ range-line c ∷ stray-line call c ∷ []
 
   -- "Checked in this order; the first that applies is answered, and none otherwise."
   abbrev pub checked : Check Plan → Check (Plan × Depth)
@@ -122,10 +122,14 @@ abbrev pub live-rows : Call → Plan → ℕ
 live-rows (plain eob) p = p .h
 live-rows (live r) p = r
 
+-- step 6: v y x is added to the pixel of row y, column x
+abbrev pub painted : ℕ → Plane → ℕ → ℕ → (ℕ → ℕ → ℤ) → List ℕ
+painted top a w h v = add-rows top (a .pixels) (begins (spot (a .view))) v w h
+
 module _ (b : Block) (p : Plan) (d : Depth) where
   -- what is added, with the mark and the coefficients that are left
   abbrev pub done : Bool → (ℕ → ℕ → ℤ) → List ℤ → Outcome
-  done mark v coefs = record { answer = acceptance mark; pixels = add-rows (b .plane) (maximum d) v (p .w) (p .h); coefs = coefs }
+  done mark v coefs = record { answer = acceptance mark; pixels = painted (maximum d) (b .plane) (p .w) (p .h) v; coefs = coefs }
 
   -- "Only the first coefficient becomes 0. .. the mark is no."
   abbrev pub by-shortcut : Outcome

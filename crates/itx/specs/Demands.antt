@@ -13,7 +13,7 @@ use Rattle.bitdepth.specs.Depths.{depth, maximum}
 use Rattle.levels.specs.declared.Plan.{Plan}
 use Rattle.levels.specs.Plans.{plan}
 use Rattle.coefs.specs.Coefs.{Covers}
-use Rattle.strided.specs.Planes.{bad-stride, row-outside, place}
+use Rattle.strided.specs.Planes.{Spotted, place}
 use Rattle.residual.specs.Blocks.{way}
 use Rattle.itx.specs.Calls.{Block, Call, plain, live, bad-eob, bad-rows, out-of-range, stray, Outcome, short, by-passes}
 
@@ -24,8 +24,7 @@ pub record Accepted (call : Call) (b : Block) (p : Plan) (d : Depth) : Type 0 wh
   pub eob : bad-eob call ≡ false
   pub rows : bad-rows call (p .h) ≡ false
   pub enough : ltb (length (b .coefs)) (p .w * p .h) ≡ false
-  pub stride : bad-stride (p .w) (b .plane .stride) ≡ false
-  pub inside : row-outside (p .w) (p .h) (b .plane) ≡ false
+  pub placed : Spotted (length (b .plane .pixels)) (p .w) (p .h) (b .plane .view)
   pub ranged : out-of-range (p, d) (b .coefs) ≡ none
   pub covered : stray call p (b .coefs) ≡ none
 

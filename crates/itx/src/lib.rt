@@ -13,7 +13,7 @@ ghost use Rattle.residual.specs.Blocks.{way-by};
 ghost use Rattle.itx.specs.Spec as Spec;
 ghost use Rattle.itx.specs.Calls as Calls;
 ghost use Rattle.itx.specs.Answers as Answers;
-ghost use Rattle.itx.specs.Answers.{answer-of, verdict-of, placed-of, Turned, Within32, Enough, RowsIn, Handed, block, Ready, Passed, Shortened, Allowed, adst-planned};
+ghost use Rattle.itx.specs.Answers.{answer-of, verdict-of, Asked, Lies, Enough, RowsIn, Handed, block, Ready, Passed, Shortened, Allowed, adst-planned};
 use bitdepth::Depth;
 use bitdepth::DepthCheck;
 use bitdepth::Range;
@@ -31,10 +31,9 @@ use residual::Engine;
 use residual::resolve;
 use residual::resolve_wht;
 use residual::shortcut;
-use strided::ByteStride;
-use strided::PixelStride;
-use strided::RowsCheck;
-use strided::StrideCheck;
+use strided::Spot;
+use strided::SpotCheck;
+use strided::View;
 
 // Document 01, "Numbers of refusal", 1 to 10.
 pub enum Refusal {
@@ -120,21 +119,17 @@ pub fn mark(answer: Answer) -> bool
     }
 }
 
-// What the checks have found out so far.
+// What the checks have found out so far: what is asked for, then also where it lies, or the number that ends the call.
 enum Verdict {
     Go(Plan, Depth),
+    At(Plan, Depth, Spot),
     Stop(Refusal),
-}
-
-// The same, with the stride in pixels.
-enum Placed {
-    At(Plan, Depth, PixelStride),
-    Halt(Refusal),
 }
 
 // Number 3.
 fn check_depth(plan: Plan, depth: usize) -> Verdict
-    ensures { λ r. ⌜ verdict-of r ≡ Calls.with-depth depth plan ⌝ }
+    requires { ⌜ (plan .w ≤ 32) × (plan .h ≤ 32) ⌝ }
+    ensures { λ r. ⌜ (verdict-of r ≡ Calls.with-depth depth plan) × Asked r ⌝ }
 {
     let checked = Depth::of(depth);
     let DepthCheck::Taken(d) = checked else {
@@ -145,7 +140,7 @@ fn check_depth(plan: Plan, depth: usize) -> Verdict
 
 // Numbers 1 to 3.
 fn check_kind(w: usize, h: usize, txtp: usize, depth: usize) -> Verdict
-    ensures { λ r. ⌜ verdict-of r ≡ then (Plans.plan w h txtp) (Calls.with-depth depth) ⌝ }
+    ensures { λ r. ⌜ (verdict-of r ≡ then (Plans.plan w h txtp) (Calls.with-depth depth)) × Asked r ⌝ }
 {
     let decision = Plan::of(w, h, txtp);
     match decision {
@@ -157,7 +152,8 @@ fn check_kind(w: usize, h: usize, txtp: usize, depth: usize) -> Verdict
 
 // Number 4.
 fn check_eob(before: Verdict, eob: i32) -> Verdict
-    ensures { λ r. ⌜ verdict-of r ≡ then (verdict-of before) (judged (Calls.eob-line (Calls.plain eob) ∷ [])) ⌝ }
+    requires { ⌜ Asked before ⌝ }
+    ensures { λ r. ⌜ (verdict-of r ≡ then (verdict-of before) (judged (Calls.eob-line (Calls.plain eob) ∷ []))) × Asked r ⌝ }
 {
     let Verdict::Go(_, _) = before else {
         return before;
@@ -170,7 +166,8 @@ fn check_eob(before: Verdict, eob: i32) -> Verdict
 
 // Number 5.
 fn check_rows(before: Verdict, r: usize) -> Verdict
-    ensures { λ v. ⌜ verdict-of v ≡ then (verdict-of before) (judged (Calls.rows-line (Calls.live r) ∷ [])) ⌝ }
+    requires { ⌜ Asked before ⌝ }
+    ensures { λ v. ⌜ (verdict-of v ≡ then (verdict-of before) (judged (Calls.rows-line (Calls.live r) ∷ []))) × Asked v ⌝ }
 {
     let Verdict::Go(plan, _) = before else {
         return before;
@@ -185,8 +182,8 @@ fn check_rows(before: Verdict, r: usize) -> Verdict
 
 // Number 6.
 fn check_count(before: Verdict, count: usize) -> Verdict
-    requires { ⌜ Within32 before ⌝ }
-    ensures { λ r. ⌜ verdict-of r ≡ then (verdict-of before) (judged (Calls.count-line count ∷ [])) ⌝ }
+    requires { ⌜ Asked before ⌝ }
+    ensures { λ r. ⌜ (verdict-of r ≡ then (verdict-of before) (judged (Calls.count-line count ∷ []))) × Asked r ⌝ }
 {
     let Verdict::Go(plan, _) = before else {
         return before;
@@ -199,34 +196,30 @@ fn check_count(before: Verdict, count: usize) -> Verdict
     before
 }
 
-// Numbers 7 and 8. The stride is turned here, once.
-fn check_plane(before: Verdict, size: usize, offset: u32, stride: ByteStride) -> Placed
-    ensures { λ r. ⌜ (placed-of r ≡ then (verdict-of before) (judged (Calls.plane-lines size offset (stride .0)))) × Turned (stride .0) r ⌝ }
+// Numbers 7 and 8.
+fn check_plane(before: Verdict, size: usize, view: View) -> Verdict
+    requires { ⌜ Asked before ⌝ }
+    ensures { λ r. ⌜ (verdict-of r ≡ then (verdict-of before) (judged (Calls.plane-lines size view))) × Lies view r ⌝ }
 {
-    match before {
-        Verdict::Stop(refusal) => Placed::Halt(refusal),
-        Verdict::Go(plan, depth) => {
-            let w = plan.w;
-            let h = plan.h;
-            let turned = stride.in_pixels(w);
-            let StrideCheck::Pixels(pixels) = turned else {
-                return Placed::Halt(Refusal::BadStride);
-            };
-            let rows = pixels.rows(size, offset, w, h);
-            let RowsCheck::Inside = rows else {
-                return Placed::Halt(Refusal::RowOutside);
-            };
-            Placed::At(plan, depth, pixels)
-        }
+    let Verdict::Go(plan, depth) = before else {
+        return before;
+    };
+    let w = plan.w;
+    let h = plan.h;
+    let found = view.spot(size, w, h);
+    match found {
+        SpotCheck::Found(spot) => Verdict::At(plan, depth, spot),
+        SpotCheck::BadStride => Verdict::Stop(Refusal::BadStride),
+        SpotCheck::RowOutside => Verdict::Stop(Refusal::RowOutside),
     }
 }
 
 // Number 9.
-fn check_range(before: Placed, coeff: &[i32]) -> Placed
+fn check_range(before: Verdict, coeff: &[i32]) -> Verdict
     requires { ⌜ Enough (length (now coeff)) before ⌝ }
-    ensures { λ r. ⌜ (placed-of r ≡ then (placed-of before) (judged (Calls.range-line (now (coeff .entry)) ∷ []))) × Handed before r ⌝ }
+    ensures { λ r. ⌜ (verdict-of r ≡ then (verdict-of before) (judged (Calls.range-line (now (coeff .entry)) ∷ []))) × Handed before r ⌝ }
 {
-    let Placed::At(plan, depth, _) = before else {
+    let Verdict::At(plan, depth, _) = before else {
         return before;
     };
     let w = plan.w;
@@ -236,15 +229,15 @@ fn check_range(before: Placed, coeff: &[i32]) -> Placed
     let Found::At(i) = found else {
         return before;
     };
-    Placed::Halt(Refusal::OutOfRange(i))
+    Verdict::Stop(Refusal::OutOfRange(i))
 }
 
 // Number 10.
-fn check_stray(before: Placed, coeff: &[i32], r: usize) -> Placed
+fn check_stray(before: Verdict, coeff: &[i32], r: usize) -> Verdict
     requires { ⌜ Enough (length (now coeff)) before × RowsIn r before ⌝ }
-    ensures { λ v. ⌜ (placed-of v ≡ then (placed-of before) (judged (Calls.stray-line (Calls.live r) (now (coeff .entry)) ∷ []))) × Handed before v ⌝ }
+    ensures { λ v. ⌜ (verdict-of v ≡ then (verdict-of before) (judged (Calls.stray-line (Calls.live r) (now (coeff .entry)) ∷ []))) × Handed before v ⌝ }
 {
-    let Placed::At(plan, _, _) = before else {
+    let Verdict::At(plan, _, _) = before else {
         return before;
     };
     let w = plan.w;
@@ -253,25 +246,18 @@ fn check_stray(before: Placed, coeff: &[i32], r: usize) -> Placed
     let Found::At(i) = found else {
         return before;
     };
-    Placed::Halt(Refusal::Stray(i))
+    Verdict::Stop(Refusal::Stray(i))
 }
 
 // The long way of WHT_WHT, whose sixteen numbers ask for no larger block.
-fn by_wht(
-    dst: &mut [u16],
-    offset: u32,
-    stride: PixelStride,
-    coeff: &mut [i32],
-    depth: Depth,
-    r: usize,
-)
-    requires { ⌜ Ready (wht-plan 0) offset (stride .0) (now dst) (now coeff) × (r ≤ 4) ⌝ }
-    ensures { λ _. ⌜ ((shift : ℕ) → Passed Engine.First (wht-plan shift) depth offset (stride .0) r (now (dst .entry)) (now (coeff .entry)) false (now (dst .exit)) (now (coeff .exit))) ⌝ }
+fn by_wht(dst: &mut [u16], spot: Spot, coeff: &mut [i32], depth: Depth, r: usize)
+    requires { ⌜ Ready (wht-plan 0) spot (now dst) (now coeff) × (r ≤ 4) ⌝ }
+    ensures { λ _. ⌜ ((shift : ℕ) → Passed Engine.First (wht-plan shift) depth spot r (now (dst .entry)) (now (coeff .entry)) false (now (dst .exit)) (now (coeff .exit))) ⌝ }
 {
     let top = depth.maximum();
     let mut t = [0i32; 16];
     resolve_wht(&mut t, &*coeff, r);
-    add_block(&mut *dst, offset, stride, &t, 4, Kind::Wht, 4, 4, top);
+    add_block(&mut *dst, spot, &t, 4, Kind::Wht, 4, 4, top);
     clear(&mut *coeff, 16);
 }
 
@@ -279,15 +265,14 @@ fn by_wht(
 fn by_passes(
     engine: Engine,
     dst: &mut [u16],
-    offset: u32,
-    stride: PixelStride,
+    spot: Spot,
     coeff: &mut [i32],
     plan: Plan,
     depth: Depth,
     r: usize,
 ) -> bool
-    requires { ⌜ Ready plan offset (stride .0) (now dst) (now coeff) × (r ≤ plan .h) × Served engine plan ⌝ }
-    ensures { λ m. ⌜ Passed engine plan depth offset (stride .0) r (now (dst .entry)) (now (coeff .entry)) m (now (dst .exit)) (now (coeff .exit)) ⌝ }
+    requires { ⌜ Ready plan spot (now dst) (now coeff) × (r ≤ plan .h) × Served engine plan ⌝ }
+    ensures { λ m. ⌜ Passed engine plan depth spot r (now (dst .entry)) (now (coeff .entry)) m (now (dst .exit)) (now (coeff .exit)) ⌝ }
 {
     let w = plan.w;
     let h = plan.h;
@@ -295,14 +280,14 @@ fn by_passes(
     let columns = plan.columns;
     if let Kind::Wht = rows {
         if let Engine::First = engine {
-            by_wht(dst, offset, stride, coeff, depth, r);
+            by_wht(dst, spot, coeff, depth, r);
             return false;
         }
     }
     let top = depth.maximum();
     let mut t = [0i32; 1024];
     let mark = resolve(engine, &mut t, plan, depth, &*coeff, r);
-    add_block(&mut *dst, offset, stride, &t, w, columns, w, h, top);
+    add_block(&mut *dst, spot, &t, w, columns, w, h, top);
     clear(&mut *coeff, w * h);
     mark
 }
@@ -328,64 +313,55 @@ fn is_short(plan: Plan, eob: i32) -> bool
 // Numbers 1 to 9.
 fn check_plain(
     size: usize,
-    offset: u32,
-    stride: ByteStride,
+    view: View,
     coeff: &[i32],
     eob: i32,
     w: usize,
     h: usize,
     txtp: usize,
     depth: usize,
-) -> Placed
-    ensures { λ r. ⌜ ((ps : List ℕ) → length ps ≡ size → placed-of r ≡ Calls.verdict (Calls.plain eob) (block w h txtp depth (now (coeff .entry)) (lent ps offset (stride .0)))) × Turned (stride .0) r ⌝ }
+) -> Verdict
+    ensures { λ r. ⌜ ((ps : List ℕ) → length ps ≡ size → verdict-of r ≡ Calls.verdict (Calls.plain eob) (block w h txtp depth (now (coeff .entry)) (lent ps view))) × Lies view r ⌝ }
 {
     let kind = check_kind(w, h, txtp, depth);
     let known = check_eob(kind, eob);
     let counted = check_count(known, coeff.len());
-    let placed = check_plane(counted, size, offset, stride);
+    let placed = check_plane(counted, size, view);
     check_range(placed, coeff)
 }
 
 // Numbers 1 to 3 and 5 to 10.
 fn check_live(
     size: usize,
-    offset: u32,
-    stride: ByteStride,
+    view: View,
     coeff: &[i32],
     r: usize,
     w: usize,
     h: usize,
     txtp: usize,
     depth: usize,
-) -> Placed
-    ensures { λ v. ⌜ ((ps : List ℕ) → length ps ≡ size → placed-of v ≡ Calls.verdict (Calls.live r) (block w h txtp depth (now (coeff .entry)) (lent ps offset (stride .0)))) × Turned (stride .0) v ⌝ }
+) -> Verdict
+    ensures { λ v. ⌜ ((ps : List ℕ) → length ps ≡ size → verdict-of v ≡ Calls.verdict (Calls.live r) (block w h txtp depth (now (coeff .entry)) (lent ps view))) × Lies view v ⌝ }
 {
     let kind = check_kind(w, h, txtp, depth);
     let known = check_rows(kind, r);
     let counted = check_count(known, coeff.len());
-    let placed = check_plane(counted, size, offset, stride);
+    let placed = check_plane(counted, size, view);
     let ranged = check_range(placed, coeff);
     check_stray(ranged, coeff, r)
 }
 
 // The shortcut: every pixel gets the same number.
-fn by_shortcut(
-    dst: &mut [u16],
-    offset: u32,
-    stride: PixelStride,
-    coeff: &mut [i32],
-    plan: Plan,
-    depth: Depth,
-)
-    requires { ⌜ Ready plan offset (stride .0) (now dst) (now coeff) ⌝ }
-    ensures { λ _. ⌜ Shortened plan depth offset (stride .0) (now (dst .entry)) (now (coeff .entry)) (now (dst .exit)) (now (coeff .exit)) ⌝ }
+fn by_shortcut(dst: &mut [u16], spot: Spot, coeff: &mut [i32], plan: Plan, depth: Depth)
+    requires { ⌜ Ready plan spot (now dst) (now coeff) ⌝ }
+    ensures { λ _. ⌜ Shortened plan depth spot (now (dst .entry)) (now (coeff .entry)) (now (dst .exit)) (now (coeff .exit)) ⌝ }
 {
     let w = plan.w;
     let h = plan.h;
     let top = depth.maximum();
     let first = coeff[0];
     let v = shortcut(plan, first);
-    shift_block(&mut *dst, offset, stride, v, w, h, top);
+    shift_block(&mut *dst, spot, v, w, h, top);
     coeff[0] = 0;
 }
 
@@ -393,8 +369,7 @@ fn by_shortcut(
 fn plain(
     engine: Engine,
     dst: &mut [u16],
-    offset: u32,
-    stride: ByteStride,
+    view: View,
     coeff: &mut [i32],
     eob: i32,
     w: usize,
@@ -403,19 +378,21 @@ fn plain(
     depth: usize,
 ) -> Answer
     requires { ⌜ Allowed engine (Plans.plan w h txtp) ⌝ }
-    ensures { λ r. ⌜ Calls.Leaves (Calls.outcome-of (way-by engine) (Calls.plain eob) (block w h txtp depth (now (coeff .entry)) (lent (now (dst .entry)) offset (stride .0))) (Calls.verdict (Calls.plain eob) (block w h txtp depth (now (coeff .entry)) (lent (now (dst .entry)) offset (stride .0))))) (answer-of r) (now (dst .exit)) (now (coeff .exit)) ⌝ }
+    ensures { λ r. ⌜ Calls.Leaves (Calls.outcome-of (way-by engine) (Calls.plain eob) (block w h txtp depth (now (coeff .entry)) (lent (now (dst .entry)) view)) (Calls.verdict (Calls.plain eob) (block w h txtp depth (now (coeff .entry)) (lent (now (dst .entry)) view)))) (answer-of r) (now (dst .exit)) (now (coeff .exit)) ⌝ }
 {
-    let checked = check_plain(dst.len(), offset, stride, &*coeff, eob, w, h, txtp, depth);
+    let checked = check_plain(dst.len(), view, &*coeff, eob, w, h, txtp, depth);
     match checked {
-        Placed::Halt(refusal) => Answer::Refused(refusal),
-        Placed::At(plan, d, pixels) => {
+        Verdict::Stop(refusal) => Answer::Refused(refusal),
+        // Never: the check of the plane has found a place or stopped.
+        Verdict::Go(_, _) => Answer::Refused(Refusal::RowOutside),
+        Verdict::At(plan, d, spot) => {
             if is_short(plan, eob) {
-                by_shortcut(dst, offset, pixels, coeff, plan, d);
+                by_shortcut(dst, spot, coeff, plan, d);
                 return Answer::Done(false);
             }
             // Rows that are zero are passed over: that changes nothing, by demand 3.
             let r = live_rows(&*coeff, plan.w, plan.h);
-            let mark = by_passes(engine, dst, offset, pixels, coeff, plan, d, r);
+            let mark = by_passes(engine, dst, spot, coeff, plan, d, r);
             Answer::Done(mark)
         }
     }
@@ -425,8 +402,7 @@ fn plain(
 fn live(
     engine: Engine,
     dst: &mut [u16],
-    offset: u32,
-    stride: ByteStride,
+    view: View,
     coeff: &mut [i32],
     r: usize,
     w: usize,
@@ -435,13 +411,15 @@ fn live(
     depth: usize,
 ) -> Answer
     requires { ⌜ Allowed engine (Plans.plan w h txtp) ⌝ }
-    ensures { λ a. ⌜ Calls.Leaves (Calls.outcome-of (way-by engine) (Calls.live r) (block w h txtp depth (now (coeff .entry)) (lent (now (dst .entry)) offset (stride .0))) (Calls.verdict (Calls.live r) (block w h txtp depth (now (coeff .entry)) (lent (now (dst .entry)) offset (stride .0))))) (answer-of a) (now (dst .exit)) (now (coeff .exit)) ⌝ }
+    ensures { λ a. ⌜ Calls.Leaves (Calls.outcome-of (way-by engine) (Calls.live r) (block w h txtp depth (now (coeff .entry)) (lent (now (dst .entry)) view)) (Calls.verdict (Calls.live r) (block w h txtp depth (now (coeff .entry)) (lent (now (dst .entry)) view)))) (answer-of a) (now (dst .exit)) (now (coeff .exit)) ⌝ }
 {
-    let checked = check_live(dst.len(), offset, stride, &*coeff, r, w, h, txtp, depth);
+    let checked = check_live(dst.len(), view, &*coeff, r, w, h, txtp, depth);
     match checked {
-        Placed::Halt(refusal) => Answer::Refused(refusal),
-        Placed::At(plan, d, pixels) => {
-            let mark = by_passes(engine, dst, offset, pixels, coeff, plan, d, r);
+        Verdict::Stop(refusal) => Answer::Refused(refusal),
+        // Never: the check of the plane has found a place or stopped.
+        Verdict::Go(_, _) => Answer::Refused(Refusal::RowOutside),
+        Verdict::At(plan, d, spot) => {
+            let mark = by_passes(engine, dst, spot, coeff, plan, d, r);
             Answer::Done(mark)
         }
     }
@@ -450,8 +428,7 @@ fn live(
 // The plain call.
 pub fn inv_txfm_add(
     dst: &mut [u16],
-    offset: u32,
-    stride: ByteStride,
+    view: View,
     coeff: &mut [i32],
     eob: i32,
     w: usize,
@@ -459,27 +436,15 @@ pub fn inv_txfm_add(
     txtp: usize,
     depth: usize,
 ) -> Answer
-    ensures { λ r. ⌜ Calls.Meets (Calls.plain eob) (block w h txtp depth (now (coeff .entry)) (lent (now (dst .entry)) offset (stride .0))) (answer-of r) (now (dst .exit)) (now (coeff .exit)) ⌝ }
+    ensures { λ r. ⌜ Calls.Meets (Calls.plain eob) (block w h txtp depth (now (coeff .entry)) (lent (now (dst .entry)) view)) (answer-of r) (now (dst .exit)) (now (coeff .exit)) ⌝ }
 {
-    plain(
-        Engine::First,
-        dst,
-        offset,
-        stride,
-        coeff,
-        eob,
-        w,
-        h,
-        txtp,
-        depth,
-    )
+    plain(Engine::First, dst, view, coeff, eob, w, h, txtp, depth)
 }
 
 // The live-row call.
 pub fn inv_txfm_add_live(
     dst: &mut [u16],
-    offset: u32,
-    stride: ByteStride,
+    view: View,
     coeff: &mut [i32],
     r: usize,
     w: usize,
@@ -487,20 +452,9 @@ pub fn inv_txfm_add_live(
     txtp: usize,
     depth: usize,
 ) -> Answer
-    ensures { λ a. ⌜ Calls.Meets (Calls.live r) (block w h txtp depth (now (coeff .entry)) (lent (now (dst .entry)) offset (stride .0))) (answer-of a) (now (dst .exit)) (now (coeff .exit)) ⌝ }
+    ensures { λ a. ⌜ Calls.Meets (Calls.live r) (block w h txtp depth (now (coeff .entry)) (lent (now (dst .entry)) view)) (answer-of a) (now (dst .exit)) (now (coeff .exit)) ⌝ }
 {
-    live(
-        Engine::First,
-        dst,
-        offset,
-        stride,
-        coeff,
-        r,
-        w,
-        h,
-        txtp,
-        depth,
-    )
+    live(Engine::First, dst, view, coeff, r, w, h, txtp, depth)
 }
 
 fn is_adst(kind: Kind) -> bool
@@ -534,8 +488,7 @@ fn has_adst(w: usize, h: usize, txtp: usize) -> bool
 // The plain call of the second engine (E8).
 pub fn spec_inv_txfm_add(
     dst: &mut [u16],
-    offset: u32,
-    stride: ByteStride,
+    view: View,
     coeff: &mut [i32],
     eob: i32,
     w: usize,
@@ -543,30 +496,18 @@ pub fn spec_inv_txfm_add(
     txtp: usize,
     depth: usize,
 ) -> Answer
-    ensures { λ r. ⌜ Spec.SpecMeets (Calls.plain eob) (block w h txtp depth (now (coeff .entry)) (lent (now (dst .entry)) offset (stride .0))) (answer-of r) (now (dst .exit)) (now (coeff .exit)) ⌝ }
+    ensures { λ r. ⌜ Spec.SpecMeets (Calls.plain eob) (block w h txtp depth (now (coeff .entry)) (lent (now (dst .entry)) view)) (answer-of r) (now (dst .exit)) (now (coeff .exit)) ⌝ }
 {
     if has_adst(w, h, txtp) {
         return Answer::Refused(Refusal::NoType);
     }
-    plain(
-        Engine::Spec,
-        dst,
-        offset,
-        stride,
-        coeff,
-        eob,
-        w,
-        h,
-        txtp,
-        depth,
-    )
+    plain(Engine::Spec, dst, view, coeff, eob, w, h, txtp, depth)
 }
 
 // The live-row call of the second engine.
 pub fn spec_inv_txfm_add_live(
     dst: &mut [u16],
-    offset: u32,
-    stride: ByteStride,
+    view: View,
     coeff: &mut [i32],
     r: usize,
     w: usize,
@@ -574,21 +515,10 @@ pub fn spec_inv_txfm_add_live(
     txtp: usize,
     depth: usize,
 ) -> Answer
-    ensures { λ a. ⌜ Spec.SpecMeets (Calls.live r) (block w h txtp depth (now (coeff .entry)) (lent (now (dst .entry)) offset (stride .0))) (answer-of a) (now (dst .exit)) (now (coeff .exit)) ⌝ }
+    ensures { λ a. ⌜ Spec.SpecMeets (Calls.live r) (block w h txtp depth (now (coeff .entry)) (lent (now (dst .entry)) view)) (answer-of a) (now (dst .exit)) (now (coeff .exit)) ⌝ }
 {
     if has_adst(w, h, txtp) {
         return Answer::Refused(Refusal::NoType);
     }
-    live(
-        Engine::Spec,
-        dst,
-        offset,
-        stride,
-        coeff,
-        r,
-        w,
-        h,
-        txtp,
-        depth,
-    )
+    live(Engine::Spec, dst, view, coeff, r, w, h, txtp, depth)
 }

@@ -2,6 +2,14 @@
 ghost use Prim.Native.Nat.{_<_, _≤_};
 use itx::Answer;
 use strided::ByteStride;
+use strided::View;
+
+fn seen(offset: u32, stride: i32) -> View {
+    View {
+        offset,
+        stride: ByteStride(stride),
+    }
+}
 
 fn shown(answer: Answer, dst: &[u16], c: &[i32]) {
     show::answer(
@@ -60,8 +68,8 @@ fn plain(
     depth: usize,
 ) {
     asked(&*dst, offset, stride, &*c, eob, w, h, txtp, depth);
-    let bytes = ByteStride(stride);
-    let answer = itx::inv_txfm_add(&mut *dst, offset, bytes, &mut *c, eob, w, h, txtp, depth);
+    let view = seen(offset, stride);
+    let answer = itx::inv_txfm_add(&mut *dst, view, &mut *c, eob, w, h, txtp, depth);
     shown(answer, &*dst, &*c);
 }
 
@@ -77,8 +85,8 @@ fn live(
     depth: usize,
 ) {
     asked_live(&*dst, offset, stride, &*c, r, w, h, txtp, depth);
-    let bytes = ByteStride(stride);
-    let answer = itx::inv_txfm_add_live(&mut *dst, offset, bytes, &mut *c, r, w, h, txtp, depth);
+    let view = seen(offset, stride);
+    let answer = itx::inv_txfm_add_live(&mut *dst, view, &mut *c, r, w, h, txtp, depth);
     shown(answer, &*dst, &*c);
 }
 
@@ -89,8 +97,8 @@ fn spec(dst: &mut [u16], c: &mut [i32], eob: i32, w: usize, h: usize, txtp: usiz
     let stride = (w * 2) as i32;
     show::spec();
     asked(&*dst, 0, stride, &*c, eob, w, h, txtp, depth);
-    let bytes = ByteStride(stride);
-    let answer = itx::spec_inv_txfm_add(&mut *dst, 0, bytes, &mut *c, eob, w, h, txtp, depth);
+    let view = seen(0, stride);
+    let answer = itx::spec_inv_txfm_add(&mut *dst, view, &mut *c, eob, w, h, txtp, depth);
     shown(answer, &*dst, &*c);
 }
 
@@ -108,8 +116,8 @@ fn spec_live(
     let stride = (w * 2) as i32;
     show::spec();
     asked_live(&*dst, 0, stride, &*c, r, w, h, txtp, depth);
-    let bytes = ByteStride(stride);
-    let answer = itx::spec_inv_txfm_add_live(&mut *dst, 0, bytes, &mut *c, r, w, h, txtp, depth);
+    let view = seen(0, stride);
+    let answer = itx::spec_inv_txfm_add_live(&mut *dst, view, &mut *c, r, w, h, txtp, depth);
     shown(answer, &*dst, &*c);
 }
 

@@ -20,7 +20,7 @@ use Rattle.whole.proofs.Counts.{any-none, first-none, none-first}
 use Rattle.whole.proofs.Sizes.{abs-neg}
 use Rattle.bitdepth.specs.declared.Depth.{Depth}
 use Rattle.bitdepth.specs.Depths.{depth, row-range, maximum}
-use Rattle.strided.specs.Planes.{Plane, bad-stride, row-outside, place}
+use Rattle.strided.specs.Planes.{Plane, Spotted, place}
 use Rattle.residual.specs.Blocks.{way, entered, row, middle, column, residual, shortcut}
 use Rattle.residual.specs.Inner.{wht-plan}
 use Rattle.pixels.specs.Adds.{add-pixel}
@@ -148,7 +148,7 @@ module _ (r c c′ : List ℤ) (n : ℕ) (w : Meets (written r c n) Done c′) (
   long = ap length elements-are ∙ over-length 16 (coefficient r) c (known .0)
 
   -- a block of type 16 with these coefficients, on any plane that holds it, with any eob from 0 up
-  module _ (plane : Plane) (stride : bad-stride 4 (plane .stride) ≡ false) (inside : row-outside 4 4 plane ≡ false) (e : ℕ) where
+  module _ (plane : Plane) (placed : Spotted (length (plane .pixels)) 4 4 (plane .view)) (e : ℕ) where
     abbrev pub sent : Block
     sent = block 4 4 16 n c′ plane
 
@@ -159,10 +159,9 @@ module _ (r c c′ : List ℤ) (n : ℕ) (w : Meets (written r c n) Done c′) (
       eob = refl;
       rows = refl;
       enough = le-ltb (length c′) 16 (omega (arith, long, known .0));
-      stride = stride;
-      inside = inside;
+      placed = placed;
       ranged = none-first 16 _ (λ i l. ap (λ (v : ℤ). outside v (low (row-range d)) (high (row-range d))) (held i l) ∙ in-row-range d r (known .1) i l);
-      covered = none-first 16 _ (λ i l. refl);
+      covered = refl;
     }
 
     pub sent-done : outcome (plain (pos e)) sent .answer ≡ acceptance false

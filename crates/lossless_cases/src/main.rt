@@ -5,6 +5,7 @@
 use itx::Answer;
 use lossless::Written;
 use strided::ByteStride;
+use strided::View;
 use words::load;
 use words::signed;
 use words::word_at;
@@ -31,11 +32,13 @@ fn add(pixels: &mut [u16], coeff: &mut [i32], eob: i32, depth: usize) {
     show::eob(eob);
     io::write_all(1, b" pixels");
     show::pixels(&*pixels);
-    let bytes = ByteStride(8);
+    let view = View {
+        offset: 0,
+        stride: ByteStride(8),
+    };
     let answer = itx::inv_txfm_add(
         &mut *pixels,
-        0,
-        bytes,
+        view,
         &mut *coeff,
         eob,
         4,

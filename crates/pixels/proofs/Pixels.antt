@@ -1,16 +1,14 @@
 -- The pixel rule, place by place: each pixel of the block gets its own number, and every other pixel stays.
 use mathlib.Core.Path.{_≡_, refl, sym, ap, ap₂, _∙_}
 use mathlib.Core.Logic.{_≢_}
-use mathlib.Core.Bool.{false}
 use mathlib.Core.List.{List}
 use Prim.Native.Nat.{ℕ, zero, suc, _+_, _≤_, _<_}
+use native.Mathlib.Numerals.{add-one}
 use native.Mathlib.Omega.{arith}
-use lib.IntN.{ℤ, natAbs}
+use lib.IntN.{ℤ}
 use lib.ListN.{getD, set, length, length-set}
 use lib.Seq.{getD-set-same, getD-set-other}
 use Rattle.whole.proofs.Counts.{last-or-less}
-use Rattle.strided.specs.Planes.{Plane, start, bad-stride, row-outside, place}
-use Rattle.strided.proofs.Rows.{row-fits, rows-apart}
 use Rattle.pixels.specs.Adds.{add-pixel, add-row, add-rows}
 
 -- ---- one row
@@ -36,6 +34,13 @@ module _ (top : ℕ) (ps : List ℕ) (from : ℕ) where
       (getD-set-same rest (from + k) (new k) 0 (omega (arith, row-length v k)))
       (λ g. getD-set-other rest (from + k) (from + x) (new k) 0 (λ e. omega arith) ∙ row-own v k x g (omega arith))
 
+  -- one more pixel, which is still what it was: the step of every loop that adds a row
+  pub row-more : (v : ℕ → ℤ) (k q : ℕ) {now : List ℕ} {z : ℤ} → now ≡ add-row top ps from v k → z ≡ v k → q ≡ add-pixel top (getD now (from + k) 0) z → set now (from + k) q ≡ add-row top ps from v (k + 1)
+  unfolding add-row
+  row-more v k q {now} {z} e g f =
+      let was = ap (λ (s : List ℕ). getD s (from + k) 0) e ∙ row-other v k (from + k) (λ x l h. omega arith) in
+      (λ i. set (e i) (from + k) ((f ∙ (λ j. add-pixel top (was j) (g j))) i)) ∙ ap (add-row top ps from v) (sym (add-one k))
+
   -- what is added alike leaves alike
   row-ext : (v u : ℕ → ℤ) (k : ℕ) → ((x : ℕ) → x < k → add-pixel top (getD ps (from + x) 0) (v x) ≡ add-pixel top (getD ps (from + x) 0) (u x)) → add-row top ps from v k ≡ add-row top ps from u k
   unfolding add-row
@@ -44,38 +49,45 @@ module _ (top : ℕ) (ps : List ℕ) (from : ℕ) where
 
 -- ---- all rows
 
-module _ (a : Plane) (top : ℕ) (v : ℕ → ℕ → ℤ) where
-  pub rows-length : (w k : ℕ) → length (add-rows a top v w k) ≡ length (a .pixels)
+module _ (top : ℕ) (ps : List ℕ) (from : ℕ → ℕ) where
+  pub rows-length : (v : ℕ → ℕ → ℤ) (n k : ℕ) → length (add-rows top ps from v n k) ≡ length ps
   unfolding add-rows
-  rows-length w zero = refl
-  rows-length w (suc k) = row-length top (add-rows a top v w k) (natAbs (start a k)) (v k) w ∙ rows-length w k
+  rows-length v n zero = refl
+  rows-length v n (suc k) = row-length top (add-rows top ps from v n k) (from k) (v k) n ∙ rows-length v n k
 
   -- what is no pixel of the first k rows stays
-  pub pixel-kept : (w k i : ℕ) → ((y x : ℕ) → y < k → x < w → i ≢ place a y x) → getD (add-rows a top v w k) i 0 ≡ getD (a .pixels) i 0
+  pub pixel-kept : (v : ℕ → ℕ → ℤ) (n k i : ℕ) → ((y x : ℕ) → y < k → x < n → i ≢ from y + x) → getD (add-rows top ps from v n k) i 0 ≡ getD ps i 0
   unfolding add-rows
-  pixel-kept w zero i f = refl
-  pixel-kept w (suc k) i f = row-other top (add-rows a top v w k) (natAbs (start a k)) (v k) w i (λ x l. f k x (omega arith) l) ∙ pixel-kept w k i (λ y x l. f y x (omega arith))
+  pixel-kept v n zero i f = refl
+  pixel-kept v n (suc k) i f = row-other top (add-rows top ps from v n k) (from k) (v k) n i (λ x l. f k x (omega arith) l) ∙ pixel-kept v n k i (λ y x l. f y x (omega arith))
 
-  module _ (w h : ℕ) (stride : bad-stride w (a .stride) ≡ false) (within : row-outside w h a ≡ false) where
+  -- one more row: the step of every loop that adds a block
+  pub rows-more : (v : ℕ → ℕ → ℤ) (n k : ℕ) {now after : List ℕ} {at : ℕ} → now ≡ add-rows top ps from v n k → at ≡ from k
+      → after ≡ add-row top now at (v k) n → after ≡ add-rows top ps from v n (k + 1)
+  unfolding add-rows
+  rows-more v n k e g f = f ∙ (λ i. add-row top (e i) (g i) (v k) n) ∙ ap (add-rows top ps from v n) (sym (add-one k))
+
+  -- rows that lie in the slice and do not meet
+  module _ (n h : ℕ) (fits : (y : ℕ) → y < h → from y + n ≤ length ps) (apart : (y u x t : ℕ) → y < u → u < h → x < n → t < n → from y + x ≢ from u + t) (v : ℕ → ℕ → ℤ) where
     -- a row's pixels wait for their row
-    pub pixel-waits : (y x : ℕ) → y < h → x < w → getD (add-rows a top v w y) (place a y x) 0 ≡ getD (a .pixels) (place a y x) 0
-    pixel-waits y x g m = pixel-kept w y (place a y x) (λ u t l n e. rows-apart a w h stride within u y t x l g n m (sym e))
+    pub pixel-waits : (y x : ℕ) → y < h → x < n → getD (add-rows top ps from v n y) (from y + x) 0 ≡ getD ps (from y + x) 0
+    pixel-waits y x g m = pixel-kept v n y (from y + x) (λ u t l k e. apart u y t x l g k m (sym e))
 
     -- the pixel of row y, column x gets its number
-    pub pixel-set : (k y x : ℕ) → k ≤ h → y < k → x < w → getD (add-rows a top v w k) (place a y x) 0 ≡ add-pixel top (getD (a .pixels) (place a y x) 0) (v y x)
+    pub pixel-set : (k y x : ℕ) → k ≤ h → y < k → x < n → getD (add-rows top ps from v n k) (from y + x) 0 ≡ add-pixel top (getD ps (from y + x) 0) (v y x)
     unfolding add-rows
     pixel-set zero y x l g m = let f : ⊥ = omega arith in absurd f
     pixel-set (suc k) y x l g m =
-        let rest = add-rows a top v w k in
-        last-or-less y k (λ (n : ℕ). getD (add-row top rest (natAbs (start a k)) (v k) w) (place a n x) 0 ≡ add-pixel top (getD (a .pixels) (place a n x) 0) (v n x)) g
-        (row-own top rest (natAbs (start a k)) (v k) w x m (omega (arith, row-fits a w h within k l .1, rows-length w k)) ∙ ap (λ (q : ℕ). add-pixel top q (v k x)) (pixel-waits k x l m))
-        (λ j. row-other top rest (natAbs (start a k)) (v k) w (place a y x) (λ t n. rows-apart a w h stride within y k x t j l m n) ∙ pixel-set k y x (omega arith) j m)
+        let rest = add-rows top ps from v n k in
+        last-or-less y k (λ (u : ℕ). getD (add-row top rest (from k) (v k) n) (from u + x) 0 ≡ add-pixel top (getD ps (from u + x) 0) (v u x)) g
+        (row-own top rest (from k) (v k) n x m (omega (arith, fits k l, rows-length v n k)) ∙ ap (λ (q : ℕ). add-pixel top q (v k x)) (pixel-waits k x l m))
+        (λ j. row-other top rest (from k) (v k) n (from y + x) (λ t i. apart y k x t j l m i) ∙ pixel-set k y x (omega arith) j m)
 
-pub rows-ext : (a : Plane) (top : ℕ) (v u : ℕ → ℕ → ℤ) (w k : ℕ)
-    → ((y x : ℕ) → y < k → x < w → add-pixel top (getD (add-rows a top u w y) (place a y x) 0) (v y x) ≡ add-pixel top (getD (add-rows a top u w y) (place a y x) 0) (u y x))
-    → add-rows a top v w k ≡ add-rows a top u w k
-unfolding add-rows
-rows-ext a top v u w zero e = refl
-rows-ext a top v u w (suc k) e =
-    ap (λ (s : List ℕ). add-row top s (natAbs (start a k)) (v k) w) (rows-ext a top v u w k (λ y x l. e y x (omega arith)))
-    ∙ row-ext top (add-rows a top u w k) (natAbs (start a k)) (v k) (u k) w (λ x l. e k x (omega arith) l)
+  pub rows-ext : (v u : ℕ → ℕ → ℤ) (n k : ℕ)
+      → ((y x : ℕ) → y < k → x < n → add-pixel top (getD (add-rows top ps from u n y) (from y + x) 0) (v y x) ≡ add-pixel top (getD (add-rows top ps from u n y) (from y + x) 0) (u y x))
+      → add-rows top ps from v n k ≡ add-rows top ps from u n k
+  unfolding add-rows
+  rows-ext v u n zero e = refl
+  rows-ext v u n (suc k) e =
+      ap (λ (s : List ℕ). add-row top s (from k) (v k) n) (rows-ext v u n k (λ y x l. e y x (omega arith)))
+      ∙ row-ext top (add-rows top ps from u n k) (from k) (v k) (u k) n (λ x l. e k x (omega arith) l)

@@ -8,7 +8,8 @@ use lib.ListN.{length}
 use Rattle.whole.specs.Numbers.{round2}
 use Rattle.whole.specs.Lists.{at}
 use Rattle.itx_1d.specs.declared.Kind.{Kind}
-use Rattle.strided.specs.Planes.{rows-outside}
+use Rattle.strided.specs.declared.Spot.{Spot}
+use Rattle.strided.specs.Planes.{spot-outside}
 use Rattle.residual.specs.Blocks.{if-wht}
 
 -- what a column pass leaves, rounded as it is added: "v + 8 >> 4", and v itself for WHT_WHT
@@ -24,14 +25,14 @@ pub record RowAdds (from start w : ℕ) (ps : List ℕ) (t : List ℤ) : Type 0 
   pub pixels : from + w ≤ length ps
   pub numbers : Small start w t
 
-pub record Adding (offset : ℕ) (stride : ℤ) (step w h : ℕ) (ps : List ℕ) (t : List ℤ) : Type 0 where
+pub record Adding (spot : Spot) (step w h : ℕ) (ps : List ℕ) (t : List ℤ) : Type 0 where
   pub height : h ≤ 32
   pub step-small : step ≤ 32
-  pub inside : rows-outside (length ps) offset stride w h ≡ false
+  pub inside : spot-outside (length ps) w h spot ≡ false
   pub numbers : (y : ℕ) → y < h → Small (y * step) w t
 
 -- a block to every pixel of which v is added
-pub record Shifting (offset : ℕ) (stride v : ℤ) (w h : ℕ) (ps : List ℕ) : Type 0 where
+pub record Shifting (spot : Spot) (v : ℤ) (w h : ℕ) (ps : List ℕ) : Type 0 where
   pub height : h ≤ 32
-  pub inside : rows-outside (length ps) offset stride w h ≡ false
+  pub inside : spot-outside (length ps) w h spot ≡ false
   pub small : natAbs v ≤ 16777216

@@ -1,17 +1,17 @@
 // Step 6 of the two-dimensional transform: what is added to the pixels of a plane.
 ghost use mathlib.Core.Path.{_≡_};
 ghost use Prim.Native.Nat.{_+_, _-_, _*_, _≤_, min};
-ghost use lib.IntN.{ℤ, pos, natAbs};
+ghost use lib.IntN.{pos, natAbs};
 ghost use lib.ListN.{length};
 ghost use Rattle.whole.specs.Numbers.{clip};
 ghost use Rattle.whole.specs.Lists.{at};
-ghost use Rattle.strided.specs.Planes.{in-pixels, lent};
+ghost use Rattle.strided.specs.Planes.{begins};
 ghost use Rattle.pixels.specs.Adds.{add-pixel, add-row, add-rows};
 ghost use Rattle.pixels.specs.Inner as Inner;
 use intops::iclip;
 use itx_1d::Kind;
 use residual::leave;
-use strided::PixelStride;
+use strided::Spot;
 
 // v clipped to 0..top.
 fn pixel(v: i32, top: u16) -> u16
@@ -91,18 +91,12 @@ fn shift_row(ps: &mut [u16], from: usize, v: i32, w: usize, top: u16)
 }
 
 // v added to every pixel of the block.
-pub fn shift_block(
-    ps: &mut [u16],
-    offset: u32,
-    stride: PixelStride,
-    v: i32,
-    w: usize,
-    h: usize,
-    top: u16,
-)
-    requires { ⌜ Inner.Shifting offset (stride .0) v w h (now ps) ⌝ }
-    ensures { λ _. ⌜ ((bytes : ℤ) → in-pixels bytes ≡ stride .0 → now (ps .exit) ≡ add-rows (lent (now (ps .entry)) offset bytes) top (λ y x. v) w h) ⌝ }
+pub fn shift_block(ps: &mut [u16], spot: Spot, v: i32, w: usize, h: usize, top: u16)
+    requires { ⌜ Inner.Shifting spot v w h (now ps) ⌝ }
+    ensures { λ _. ⌜ now (ps .exit) ≡ add-rows top (now (ps .entry)) (begins spot) (λ y x. v) w h ⌝ }
 {
+    let offset = spot.offset;
+    let stride = spot.stride;
     for y in 0..h {
         let start = stride.start(offset, y as u16);
         shift_row(&mut *ps, start as usize, v, w, top);
@@ -112,8 +106,7 @@ pub fn shift_block(
 // Row y's numbers stand in t from y·step on.
 pub fn add_block(
     ps: &mut [u16],
-    offset: u32,
-    stride: PixelStride,
+    spot: Spot,
     t: &[i32],
     step: usize,
     columns: Kind,
@@ -121,9 +114,11 @@ pub fn add_block(
     h: usize,
     top: u16,
 )
-    requires { ⌜ Inner.Adding offset (stride .0) step w h (now ps) (now t) ⌝ }
-    ensures { λ _. ⌜ ((bytes : ℤ) → in-pixels bytes ≡ stride .0 → now (ps .exit) ≡ add-rows (lent (now (ps .entry)) offset bytes) top (λ y x. Inner.left columns (at (now (t .entry)) (y * step + x))) w h) ⌝ }
+    requires { ⌜ Inner.Adding spot step w h (now ps) (now t) ⌝ }
+    ensures { λ _. ⌜ now (ps .exit) ≡ add-rows top (now (ps .entry)) (begins spot) (λ y x. Inner.left columns (at (now (t .entry)) (y * step + x))) w h ⌝ }
 {
+    let offset = spot.offset;
+    let stride = spot.stride;
     for y in 0..h {
         let from = stride.start(offset, y as u16);
         add_row(&mut *ps, from as usize, t, y * step, columns, w, top);

@@ -63,7 +63,7 @@ module _ (call : Call) (b : Block) where
       small-when (bad-eob call) 4 _
       (small-when (bad-rows call (p .h)) 5 _
       (small-when (ltb (length c) n) 6 _
-      (small-when (bad-stride (p .w) (b .plane .stride)) 7 _
+      (small-when (bad-stride (p .w) (b .plane .view .stride .0)) 7 _
       (small-when (row-outside (p .w) (p .h) (b .plane)) 8 _
       (small-at (out-of-range (p, d) c) 9 _ (λ i e. omega (arith, first-below n _ i e))
       (small-at (stray call p c) 10 (accept (p, d)) (stray-below call p c l) tt))))))

@@ -4,12 +4,17 @@ use mathlib.Core.Bool.{cond}
 use mathlib.Core.List.{List}
 use Prim.Native.Nat.{ℕ, _+_, _*_}
 use lib.IntN.{ℤ}
+use Rattle.strided.specs.declared.View.{View}
 use Rattle.itx_1d.specs.Calls.{Answer, Outcome}
 use Rattle.itx.specs.Calls as Blocks
 
 -- the number in bits 0 to 7, the mark in bit 8, the place from bit 16 up
 abbrev pub packed : Answer → ℕ
 packed a = a .number + 256 * cond (a .mark) 1 0 + 65536 * a .place
+
+-- where a block lies, by C's numbers
+abbrev pub view : ℕ → ℤ → View
+view offset stride = record { offset = offset; stride = record { 0 = stride } }
 
 -- what an exported pass answers and leaves
 pub record Packs (o : Outcome) (r : ℕ) (c : List ℤ) : Type 0 where

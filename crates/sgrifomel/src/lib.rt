@@ -10,12 +10,13 @@ ghost use Rattle.itx.specs.Calls as Blocks;
 ghost use Rattle.itx.specs.Spec.{spec-outcome};
 ghost use Rattle.itx.specs.Answers as Answers;
 ghost use Rattle.itx.specs.Answers.{block};
-ghost use Rattle.sgrifomel.specs.Words.{packed, Packs, PacksBlock};
+ghost use Rattle.sgrifomel.specs.Words.{packed, view, Packs, PacksBlock};
 ghost use Rattle.lossless.specs.Writes as Writes;
 use itx::Answer;
 use itx_1d::Pass;
 use lossless::Written;
 use strided::ByteStride;
+use strided::View;
 
 // The mark as bit 8.
 fn bit(mark: bool) -> u64
@@ -209,10 +210,13 @@ pub extern "C" fn sgrifomel_inv_txfm_add(
     txtp: usize,
     depth: usize,
 ) -> u64
-    ensures { λ r. ⌜ PacksBlock (Blocks.outcome (Blocks.plain eob) (block w h txtp depth (now (coeff .entry)) (lent (now (dst .entry)) offset stride))) r (now (dst .exit)) (now (coeff .exit)) ⌝ }
+    ensures { λ r. ⌜ PacksBlock (Blocks.outcome (Blocks.plain eob) (block w h txtp depth (now (coeff .entry)) (lent (now (dst .entry)) (view offset stride)))) r (now (dst .exit)) (now (coeff .exit)) ⌝ }
 {
-    let bytes = ByteStride(stride);
-    pack_answer(itx::inv_txfm_add(dst, offset, bytes, coeff, eob, w, h, txtp, depth))
+    let view = View {
+        offset,
+        stride: ByteStride(stride),
+    };
+    pack_answer(itx::inv_txfm_add(dst, view, coeff, eob, w, h, txtp, depth))
 }
 
 #[no_mangle]
@@ -227,10 +231,13 @@ pub extern "C" fn sgrifomel_inv_txfm_add_live(
     txtp: usize,
     depth: usize,
 ) -> u64
-    ensures { λ a. ⌜ PacksBlock (Blocks.outcome (Blocks.live r) (block w h txtp depth (now (coeff .entry)) (lent (now (dst .entry)) offset stride))) a (now (dst .exit)) (now (coeff .exit)) ⌝ }
+    ensures { λ a. ⌜ PacksBlock (Blocks.outcome (Blocks.live r) (block w h txtp depth (now (coeff .entry)) (lent (now (dst .entry)) (view offset stride)))) a (now (dst .exit)) (now (coeff .exit)) ⌝ }
 {
-    let bytes = ByteStride(stride);
-    pack_answer(itx::inv_txfm_add_live(dst, offset, bytes, coeff, r, w, h, txtp, depth))
+    let view = View {
+        offset,
+        stride: ByteStride(stride),
+    };
+    pack_answer(itx::inv_txfm_add_live(dst, view, coeff, r, w, h, txtp, depth))
 }
 
 #[no_mangle]
@@ -245,10 +252,13 @@ pub extern "C" fn sgrifomel_spec_inv_txfm_add(
     txtp: usize,
     depth: usize,
 ) -> u64
-    ensures { λ r. ⌜ PacksBlock (spec-outcome (Blocks.plain eob) (block w h txtp depth (now (coeff .entry)) (lent (now (dst .entry)) offset stride))) r (now (dst .exit)) (now (coeff .exit)) ⌝ }
+    ensures { λ r. ⌜ PacksBlock (spec-outcome (Blocks.plain eob) (block w h txtp depth (now (coeff .entry)) (lent (now (dst .entry)) (view offset stride)))) r (now (dst .exit)) (now (coeff .exit)) ⌝ }
 {
-    let bytes = ByteStride(stride);
-    pack_answer(itx::spec_inv_txfm_add(dst, offset, bytes, coeff, eob, w, h, txtp, depth))
+    let view = View {
+        offset,
+        stride: ByteStride(stride),
+    };
+    pack_answer(itx::spec_inv_txfm_add(dst, view, coeff, eob, w, h, txtp, depth))
 }
 
 #[no_mangle]
@@ -263,10 +273,13 @@ pub extern "C" fn sgrifomel_spec_inv_txfm_add_live(
     txtp: usize,
     depth: usize,
 ) -> u64
-    ensures { λ a. ⌜ PacksBlock (spec-outcome (Blocks.live r) (block w h txtp depth (now (coeff .entry)) (lent (now (dst .entry)) offset stride))) a (now (dst .exit)) (now (coeff .exit)) ⌝ }
+    ensures { λ a. ⌜ PacksBlock (spec-outcome (Blocks.live r) (block w h txtp depth (now (coeff .entry)) (lent (now (dst .entry)) (view offset stride)))) a (now (dst .exit)) (now (coeff .exit)) ⌝ }
 {
-    let bytes = ByteStride(stride);
-    pack_answer(itx::spec_inv_txfm_add_live(dst, offset, bytes, coeff, r, w, h, txtp, depth))
+    let view = View {
+        offset,
+        stride: ByteStride(stride),
+    };
+    pack_answer(itx::spec_inv_txfm_add_live(dst, view, coeff, r, w, h, txtp, depth))
 }
 
 fn pack_written(written: Written) -> u64

@@ -6,20 +6,23 @@ use mathlib.Core.List.{List, []}
 use Prim.Native.Nat.{ℕ, suc, _+_, _-_, _*_, _%_, _≤_, _<_}
 use native.Mathlib.Nat.{mul-le-mul-right}
 use native.Mathlib.Omega.{arith}
-use borrow.Author.Tests.{ltb-true, ltb-false, leb-true, le-leb, lt-leb, not-true}
+use borrow.Author.Tests.{ltb-true, ltb-false, leb-true, le-leb, lt-leb}
 use lib.Dec.{eqb, ltb, leb}
 use lib.IntN.{ℤ, pos, negsuc, natAbs}
 use lib.ListN.{getD, length, take, drop, length-drop}
 use lib.Seq.{getD-take, getD-drop, length-take-le}
 use lib.Signed.{nonNeg}
-use Rattle.whole.specs.Checks.{Check, accept, refuse}
+use Rattle.whole.specs.Checks.{Check, accept, refuse, unless}
+use Rattle.whole.proofs.Checks.{open-unless, same-accept}
 use Rattle.whole.proofs.Clips.{or-false}
 use Rattle.whole.proofs.Counts.{any-none, any-found, none-of-any}
 use Rattle.whole.proofs.Parts.{pp, nn, Rep, abs-parts, rep-self, rep-add, rep-mul}
 use Rattle.levels.specs.Plans.{shift-of}
 use Rattle.levels.proofs.Sizes.{shift-sided, side-bounds}
 use Rattle.strided.specs.declared.Part.{Part}
-use Rattle.strided.specs.Planes.{in-pixels, bad-stride, starts, within, rows-outside, Plane, start, row-outside, place, accepted, part-when, has-row}
+use Rattle.strided.specs.declared.Spot.{Spot}
+use Rattle.strided.specs.declared.View.{View}
+use Rattle.strided.specs.Planes.{in-pixels, starts, within, rows-outside, spot, begins, spot-outside, spotted, Spotted, Plane, place, accepted, part-when, has-row}
 
 and-true : (s t : Bool) → s && t ≡ true → (s ≡ true) × (t ≡ true)
 and-true true t e = (refl, e)
@@ -92,9 +95,6 @@ module _ (size o : ℕ) (s : ℤ) (w h room : ℕ) (first : o + w ≤ size) (row
       (λ e. one-beyond size o s w h (h - 1) (omega arith) (omega (arith, none-of (h - 1) (e .0), by-size (h - 1))))
       side
 
-pub row-fits : (a : Plane) (w h : ℕ) → row-outside w h a ≡ false → (y : ℕ) → y < h → (nn (start a y) ≡ 0) × (place a y w ≤ length (a .pixels))
-row-fits a w h e y l = row-within (length (a .pixels)) (a .offset) (in-pixels (a .stride)) w h e y l
-
 -- ---- rows at least w apart do not meet
 
 apart-by : (o w y u : ℕ) (s : ℤ) → w ≤ natAbs s → y < u → (x t : ℕ) → x < w → t < w → nn (starts o s y) ≡ 0 → nn (starts o s u) ≡ 0 → natAbs (starts o s y) + x ≡ natAbs (starts o s u) + t → ⊥
@@ -103,20 +103,51 @@ apart-by o w y u (pos k) l b x t h g m n e =
 apart-by o w y u (negsuc k) l b x t h g m n e =
     omega (arith, start-parts o y (negsuc k) .rep, start-parts o u (negsuc k) .rep, abs-parts (starts o (negsuc k) y), abs-parts (starts o (negsuc k) u), mul-le-mul-right {m = suc y} {n = u} (suc k) b)
 
-module _ (a : Plane) (w h : ℕ) (stride : bad-stride w (a .stride) ≡ false) (inside : row-outside w h a ≡ false) where
-  pub rows-apart : (y u x t : ℕ) → y < u → u < h → x < w → t < w → place a y x ≢ place a u t
+-- ---- a view in a slice
+
+-- where a row of a spot starts, and that it lies in the slice
+pub row-here : (size w h : ℕ) (s : Spot) → spot-outside size w h s ≡ false → (y : ℕ) → y < h
+    → (nn (starts (s .offset) (s .stride .0) y) ≡ 0) × (begins s y + w ≤ size)
+row-here size w h s e y l = row-within size (s .offset) (s .stride .0) w h e y l
+
+pub spotted-by : (size w h : ℕ) (v : View) (s : Spot) → spotted size w h v ≡ accept s → Spotted size w h v × (s ≡ spot v)
+spotted-by size w h v s e =
+    let e7 = open-unless _ 7 _ s e in
+    let e8 = open-unless _ 8 _ s (e7 .1) in
+    (record { stride = e7 .0; inside = e8 .0 }, sym (same-accept (spot v) s (e8 .1)))
+
+module _ (size w h : ℕ) (v : View) (k : Spotted size w h v) where
+  pub spotting : spotted size w h v ≡ accept (spot v)
+  spotting = λ i. unless (k .stride i) 7 (unless (k .inside i) 8 (accept (spot v)))
+
+  pub row-fits : (y : ℕ) → y < h → begins (spot v) y + w ≤ size
+  row-fits y l = row-here size w h (spot v) (k .inside) y l .1
+
+  pub rows-apart : (y u x t : ℕ) → y < u → u < h → x < w → t < w → begins (spot v) y + x ≢ begins (spot v) u + t
   rows-apart y u x t l g m n e =
-      apart-by (a .offset) w y u (in-pixels (a .stride)) (ltb-false _ _ (or-false (eqb (natAbs (a .stride) % 2) 1) (ltb (natAbs (in-pixels (a .stride))) w) stride .1))
-      l x t m n (row-fits a w h inside y (omega arith) .0) (row-fits a w h inside u g .0) e
+      let s = in-pixels (v .stride .0) in
+      let wide : w ≤ natAbs s = ltb-false _ _ (or-false (eqb (natAbs (v .stride .0) % 2) 1) (ltb (natAbs s) w) (k .stride) .1) in
+      let here = row-here size w h (spot v) (k .inside) in
+      apart-by (v .offset) w y u s wide l x t m n (here y (omega arith) .0) (here u g .0) e
 
 -- ---- the row lookup
 
+is-accepted : {A : Type 0} (c : Check A) → accepted c ≡ true → (z : A) × (c ≡ accept z)
+is-accepted (accept z) e = (z, refl)
+is-accepted (refuse n i) e = let z : _≡_ {A = ℕ} 0 1 = cc in let f : ⊥ = omega arith in absurd f
+
 module _ (a : Plane) (w h y : ℕ) where
+  abbrev v : View
+  v = a .view
+
+  abbrev size : ℕ
+  size = length (a .pixels)
+
   abbrev has-it : Bool
-  has-it = has-row (length (a .pixels)) (a .offset) (a .stride) w h y
+  has-it = has-row size v w h y
 
   abbrev found : Bool → Part
-  found t = part-when t (a .offset) (a .stride) w y
+  found t = part-when t v w y
 
   abbrev handed : List ℕ
   handed = take (found has-it .size) (drop (found has-it .from) (a .pixels))
@@ -130,35 +161,31 @@ module _ (a : Plane) (w h y : ℕ) where
   -- none of 1, 7 and 8 holds, and y is below h
   pub record Has : Type 0 where
     pub wide : (4 ≤ w) × (w ≤ 32)
-    pub stride : bad-stride w (a .stride) ≡ false
-    pub inside : row-outside w h a ≡ false
+    pub there : Spotted size w h v
     pub below : y < h
-
-  sized : (s : Check ℕ) → shift-of w h ≡ s → accepted s ≡ true → (4 ≤ w) × (w ≤ 32)
-  sized (accept n) q t = side-bounds w (shift-sided w h n q .0)
-  sized (refuse n i) q t = let z : _≡_ {A = ℕ} 0 1 = cc in let f : ⊥ = omega arith in absurd f
 
   pub has : has-it ≡ true → Has
   has e =
       let p = and-true (accepted (shift-of w h)) _ e in
-      let q = and-true (not (bad-stride w (a .stride))) _ (p .1) in
-      let r = and-true (not (row-outside w h a)) (ltb y h) (q .1) in
-      record { wide = sized (shift-of w h) refl (p .0); stride = not-true (bad-stride w (a .stride)) (q .0); inside = not-true (row-outside w h a) (r .0); below = ltb-true y h (r .1) }
+      let q = and-true (accepted (spotted size w h v)) (ltb y h) (p .1) in
+      let n = is-accepted (shift-of w h) (p .0) in
+      let k = is-accepted (spotted size w h v) (q .0) in
+      record { wide = side-bounds w (shift-sided w h (n .0) (n .1) .0); there = spotted-by size w h v (k .0) (k .1) .0; below = ltb-true y h (q .1) }
 
   module _ (e : has-it ≡ true) where
-    fits : place a y w ≤ length (a .pixels)
-    fits = row-fits a w h (has e .inside) y (has e .below) .1
+    fits : place a y w ≤ size
+    fits = row-fits size w h v (has e .there) y (has e .below)
 
     pub row-length : length handed ≡ w
-    row-length = ap length (by-test e) ∙ length-take-le w (drop (natAbs (start a y)) (a .pixels)) (omega (arith, fits, length-drop (natAbs (start a y)) (a .pixels)))
+    row-length = ap length (by-test e) ∙ length-take-le w (drop (begins (spot v) y) (a .pixels)) (omega (arith, fits, length-drop (begins (spot v) y) (a .pixels)))
 
     pub row-pixel : (x : ℕ) → x < w → getD handed x 0 ≡ getD (a .pixels) (place a y x) 0
-    row-pixel x l = ap (λ (ps : List ℕ). getD ps x 0) (by-test e) ∙ getD-take w (drop (natAbs (start a y)) (a .pixels)) x 0 l ∙ getD-drop (natAbs (start a y)) (a .pixels) x 0
+    row-pixel x l = ap (λ (ps : List ℕ). getD ps x 0) (by-test e) ∙ getD-take w (drop (begins (spot v) y) (a .pixels)) x 0 l ∙ getD-drop (begins (spot v) y) (a .pixels) x 0
 
   -- in any case the part is inside
-  pub part-fits : found has-it .from + found has-it .size ≤ length (a .pixels)
+  pub part-fits : found has-it .from + found has-it .size ≤ size
   part-fits = go (has-it) refl
     where
-      go : (t : Bool) → has-it ≡ t → found t .from + found t .size ≤ length (a .pixels)
+      go : (t : Bool) → has-it ≡ t → found t .from + found t .size ≤ size
       go true e = fits e
       go false e = omega arith

@@ -13,6 +13,10 @@ use Rattle.whole.specs.Lists.{any}
 use Rattle.whole.specs.Checks.{Check, accept, refuse, unless}
 use Rattle.levels.specs.Plans.{shift-of}
 use Rattle.strided.specs.declared.Part.{Part}
+use Rattle.strided.specs.declared.View.{View}
+use Rattle.strided.specs.declared.Spot.{Spot}
+use Rattle.strided.specs.declared.SpotCheck.{SpotCheck}
+use Rattle.strided.specs.declared.SpotCheck.the-variants.{Found, BadStride, RowOutside}
 use Rattle.strided.specs.declared.RowsCheck.{RowsCheck}
 use Rattle.strided.specs.declared.RowsCheck.the-variants.{Inside, Outside}
 use Rattle.strided.specs.declared.StrideCheck.{StrideCheck}
@@ -42,25 +46,48 @@ rows-outside size offset stride w h = any h (λ y. not (within size w (starts of
 
 -- ---- the plane
 
+-- the view with its stride in pixels
+abbrev pub spot : View → Spot
+spot v = record { offset = v .offset; stride = record { 0 = in-pixels (v .stride .0) } }
+
+-- where row y starts, as a place in the slice
+abbrev pub begins : Spot → ℕ → ℕ
+begins s y = natAbs (starts (s .offset) (s .stride .0) y)
+
+abbrev pub spot-outside : ℕ → ℕ → ℕ → Spot → Bool
+spot-outside size w h s = rows-outside size (s .offset) (s .stride .0) w h
+
+-- numbers 7 and 8 of a view in a slice of so many pixels
+abbrev pub spotted : ℕ → ℕ → ℕ → View → Check Spot
+spotted size w h v =
+    unless (bad-stride w (v .stride .0)) 7
+    (unless (spot-outside size w h (spot v)) 8
+    (accept (spot v)))
+
+-- numbers 7 and 8 do not hold
+pub record Spotted (size w h : ℕ) (v : View) : Type 0 where
+  pub stride : bad-stride w (v .stride .0) ≡ false
+  pub inside : spot-outside size w h (spot v) ≡ false
+
 -- "a lent slice, an offset in pixels .. and a stride", which counts bytes
 pub record Plane : Type 0 where
   pub pixels : List ℕ
-  pub offset : ℕ
-  pub stride : ℤ
+  pub view : View
 
--- a slice that is lent with an offset and a stride
-abbrev pub lent : List ℕ → ℕ → ℤ → Plane
-lent pixels offset stride = record { pixels = pixels; offset = offset; stride = stride }
+-- a slice that is lent with a view
+abbrev pub lent : List ℕ → View → Plane
+lent pixels view = record { pixels = pixels; view = view }
 
-abbrev pub start : Plane → ℕ → ℤ
-start a y = starts (a .offset) (in-pixels (a .stride)) y
+-- the plane that is a block's own pixels and no others
+abbrev pub whole : ℕ → View
+whole w = record { offset = 0; stride = record { 0 = pos (2 * w) } }
 
 abbrev pub row-outside : ℕ → ℕ → Plane → Bool
-row-outside w h a = rows-outside (length (a .pixels)) (a .offset) (in-pixels (a .stride)) w h
+row-outside w h a = spot-outside (length (a .pixels)) w h (spot (a .view))
 
 -- where the pixel of row y, column x stands
 abbrev pub place : Plane → ℕ → ℕ → ℕ
-place a y x = natAbs (start a y) + x
+place a y x = begins (spot (a .view)) y + x
 
 -- ---- the row lookup
 
@@ -69,17 +96,16 @@ accepted (accept a) = true
 accepted (refuse n i) = false
 
 -- "an empty part exactly when number 1, 7 or 8 holds or y is h or more": whether a slice of so many pixels has the row
-abbrev pub has-row : ℕ → ℕ → ℤ → ℕ → ℕ → ℕ → Bool
-has-row size offset stride w h y =
-    accepted (shift-of w h) && (not (bad-stride w stride) && (not (rows-outside size offset (in-pixels stride) w h) && ltb y h))
+abbrev pub has-row : ℕ → View → ℕ → ℕ → ℕ → Bool
+has-row size v w h y = accepted (shift-of w h) && (accepted (spotted size w h v) && ltb y h)
 
 -- where it stands: so many pixels, from a place on
-abbrev pub part-when : Bool → ℕ → ℤ → ℕ → ℕ → Part
-part-when true offset stride w y = record { from = natAbs (starts offset (in-pixels stride) y); size = w }
-part-when false offset stride w y = record { from = 0; size = 0 }
+abbrev pub part-when : Bool → View → ℕ → ℕ → Part
+part-when true v w y = record { from = begins (spot v) y; size = w }
+part-when false v w y = record { from = 0; size = 0 }
 
-abbrev pub row-part : ℕ → ℕ → ℤ → ℕ → ℕ → ℕ → Part
-row-part size offset stride w h y = part-when (has-row size offset stride w h y) offset stride w y
+abbrev pub row-part : ℕ → View → ℕ → ℕ → ℕ → Part
+row-part size v w h y = part-when (has-row size v w h y) v w y
 
 -- "it hands back the w pixels of row y themselves, as that part of the lent plane": r points into s, at two bytes a pixel, and holds what stands there
 pub record IsPart (s r : RefT (List ℕ)) (p : Part) : Type 0 where
@@ -99,3 +125,8 @@ turned w bytes = unless (bad-stride w bytes) 7 (accept (in-pixels bytes))
 abbrev pub rows-check : RowsCheck → Check (Unit {0})
 rows-check Inside = accept tt
 rows-check Outside = refuse 8 0
+
+abbrev pub spot-check : SpotCheck → Check Spot
+spot-check (Found s) = accept s
+spot-check BadStride = refuse 7 0
+spot-check RowOutside = refuse 8 0

@@ -3,7 +3,7 @@ ghost use mathlib.Core.Path.{_≡_};
 ghost use lib.IntN.{natAbs};
 ghost use lib.ListN.{length};
 ghost use Rattle.whole.specs.Checks.{accept, unless};
-ghost use Rattle.strided.specs.Planes.{stride-check, turned, starts, rows-check, rows-outside, row-part, IsPart};
+ghost use Rattle.strided.specs.Planes.{stride-check, turned, starts, rows-check, rows-outside, spot-check, spotted, row-part, IsPart};
 use levels::SizeCheck;
 use levels::size_shift;
 
@@ -22,6 +22,25 @@ pub enum StrideCheck {
 pub enum RowsCheck {
     Inside,
     Outside,
+}
+
+// Where a block lies in a plane: a plane is a slice and a view.
+pub struct View {
+    pub offset: u32,
+    pub stride: ByteStride,
+}
+
+// A view whose stride was turned.
+pub struct Spot {
+    pub offset: u32,
+    pub stride: PixelStride,
+}
+
+// Numbers 7 and 8 of the refusals, in the order of the checks.
+pub enum SpotCheck {
+    Found(Spot),
+    BadStride,
+    RowOutside,
 }
 
 pub struct Part {
@@ -91,24 +110,43 @@ impl PixelStride {
     }
 }
 
+impl View {
+    // Numbers 7 and 8. The stride is turned here, once.
+    pub fn spot(self, size: usize, w: usize, h: usize) -> SpotCheck
+        ensures { λ r. ⌜ spot-check r ≡ spotted size w h self ⌝ }
+    {
+        let offset = self.offset;
+        let stride = self.stride;
+        let StrideCheck::Pixels(pixels) = stride.in_pixels(w) else {
+            return SpotCheck::BadStride;
+        };
+        let RowsCheck::Inside = pixels.rows(size, offset, w, h) else {
+            return SpotCheck::RowOutside;
+        };
+        SpotCheck::Found(Spot {
+            offset,
+            stride: pixels,
+        })
+    }
+}
+
 // Where row y of a block stands in a slice of this size, or an empty part.
-fn lookup(size: usize, offset: u32, stride: ByteStride, w: usize, h: usize, y: usize) -> Part
-    ensures { λ r. ⌜ r ≡ row-part size offset (stride .0) w h y ⌝ }
+fn lookup(size: usize, view: View, w: usize, h: usize, y: usize) -> Part
+    ensures { λ r. ⌜ r ≡ row-part size view w h y ⌝ }
 {
     let none = Part { from: 0, size: 0 };
     let SizeCheck::Shift(_) = size_shift(w, h) else {
         return none;
     };
-    let StrideCheck::Pixels(pixels) = stride.in_pixels(w) else {
-        return none;
-    };
-    let RowsCheck::Inside = pixels.rows(size, offset, w, h) else {
+    let SpotCheck::Found(spot) = view.spot(size, w, h) else {
         return none;
     };
     if h <= y {
         return none;
     }
-    let from = pixels.start(offset, y as u16);
+    let offset = spot.offset;
+    let stride = spot.stride;
+    let from = stride.start(offset, y as u16);
     Part {
         from: from as usize,
         size: w,
@@ -116,17 +154,10 @@ fn lookup(size: usize, offset: u32, stride: ByteStride, w: usize, h: usize, y: u
 }
 
 // Row y of a block, as that part of the plane, or an empty part.
-pub fn row<'a>(
-    dst: &'a mut [u16],
-    offset: u32,
-    stride: ByteStride,
-    w: usize,
-    h: usize,
-    y: usize,
-) -> &'a mut [u16]
-    ensures { λ r. ⌜ IsPart (dst .entry) r (row-part (length (now (dst .entry))) offset (stride .0) w h y) ⌝ }
+pub fn row<'a>(dst: &'a mut [u16], view: View, w: usize, h: usize, y: usize) -> &'a mut [u16]
+    ensures { λ r. ⌜ IsPart (dst .entry) r (row-part (length (now (dst .entry))) view w h y) ⌝ }
 {
-    let part = lookup(dst.len(), offset, stride, w, h, y);
+    let part = lookup(dst.len(), view, w, h, y);
     let from = part.from;
     let end = from + part.size;
     &mut dst[from..end]

@@ -26,7 +26,7 @@ by-wht-requires : tie.Need-by-wht-requires
 by-wht-requires c κs =
     let e = c .before .before .before .before in
     let s = begun e in (
-      any-shift (subst (λ (q : Plan). Ready q (s .args .offset) (s .args .stride .0) (s .args .dst .now) (s .args .coeff .now)) (plan-is e) (s .pre .0)),
+      any-shift (subst (λ (q : Plan). Ready q (s .args .spot) (s .args .dst .now) (s .args .coeff .now)) (plan-is e) (s .pre .0)),
       subst (λ (q : Plan). s .args .r ≤ q .h) (plan-is e) (s .pre .1),
     )
 
@@ -36,8 +36,8 @@ returns c =
     let f = w .before .before .before in
     let e = f .before .before in
     let s = begun e in
-    subst⁻¹ (λ (g : Engine). Passed g (s .args .plan) (s .args .depth) (s .args .offset) (s .args .stride .0) (s .args .r) (s .args .dst .now) (s .args .coeff .now) false (w .by-wht .last .0) (w .by-wht .last .1 .1 .1 .0)) (f .enum-told2 .given .1)
-    (subst⁻¹ (λ (q : Plan). Passed First q (s .args .depth) (s .args .offset) (s .args .stride .0) (s .args .r) (s .args .dst .now) (s .args .coeff .now) false (w .by-wht .last .0) (w .by-wht .last .1 .1 .1 .0)) (plan-is e) (w .by-wht .ensures (s .args .plan .shift)))
+    subst⁻¹ (λ (g : Engine). Passed g (s .args .plan) (s .args .depth) (s .args .spot) (s .args .r) (s .args .dst .now) (s .args .coeff .now) false (w .by-wht .last .0) (w .by-wht .last .1 .1 .0)) (f .enum-told2 .given .1)
+    (subst⁻¹ (λ (q : Plan). Passed First q (s .args .depth) (s .args .spot) (s .args .r) (s .args .dst .now) (s .args .coeff .now) false (w .by-wht .last .0) (w .by-wht .last .1 .1 .0)) (plan-is e) (w .by-wht .ensures (s .args .plan .shift)))
 
 resolve-requires : tie.Need-resolve-requires
 resolve-requires c κs =

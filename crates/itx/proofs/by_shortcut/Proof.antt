@@ -1,10 +1,9 @@
 -- `itx::by_shortcut` meets its contract.
-use mathlib.Core.Path.{_≡_, refl, sym, ap, _∙_, subst, subst⁻¹}
-use mathlib.Core.List.{List}
-use Prim.Native.Nat.{ℕ, _+_, _*_, _≤_, _<_}
+use mathlib.Core.Path.{_≡_, refl, ap, _∙_, subst⁻¹}
+use Prim.Native.Nat.{_*_, _≤_, _<_}
 use native.Mathlib.Nat.{mul-le-mul}
 use native.Mathlib.Omega.{arith}
-use lib.IntN.{ℤ, pos, natAbs}
+use lib.IntN.{ℤ, natAbs}
 use lib.ListN.{length}
 use mir.Syntax.{w32}
 use mir.Val.{toZ, ofZ}
@@ -13,7 +12,7 @@ use borrow.Author.Needs.{needs}
 use Rattle.whole.specs.Lists.{at}
 use Rattle.bitdepth.specs.Depths.{maximum}
 use Rattle.levels.proofs.Sizes.{side-bounds}
-use Rattle.strided.specs.Planes.{lent}
+use Rattle.strided.specs.Planes.{begins}
 use Rattle.pixels.specs.Adds.{add-rows}
 use Rattle.residual.specs.Blocks.{shortcut}
 use Rattle.itx.proofs.by_shortcut.Statement.{statement}
@@ -57,11 +56,7 @@ returns c =
     let s = begun o in
     let p = s .args .plan in
     record {
-      added = record {
-        pixels-are = λ bytes e.
-            b .shift-block .ensures bytes e
-            ∙ (λ k. add-rows (lent (s .args .dst .now) (s .args .offset) bytes) (o .before .before .maximum .ensures k) (λ y x. number-is o k) (p .w) (p .h));
-      };
+      pixels-are = b .shift-block .ensures ∙ (λ k. add-rows (o .before .before .maximum .ensures k) (s .args .dst .now) (begins (s .args .spot)) (λ y x. number-is o k) (p .w) (p .h));
       coefs-are = refl;
     }
 

@@ -5,9 +5,9 @@ use native.Mathlib.Omega.{arith}
 use borrow.Author.Needs.{needs}
 use borrow.Author.Tests.{lt-ltb, le-ltb}
 use Rattle.whole.specs.Checks.{when}
-use Rattle.itx.specs.Answers.{Within32}
+use Rattle.itx.specs.Answers.{verdict-of, Asked}
 use Rattle.itx.specs.Calls.{count-line}
-use Rattle.itx.proofs.Opening.{decides}
+use Rattle.itx.proofs.Opening.{decides, stopped}
 use Rattle.itx.proofs.check_count.Statement.{statement}
 use Rattle.itx.proofs.check_count.Tie as tie
 
@@ -15,7 +15,7 @@ mul-if1 : tie.Need-mul-if1
 mul-if1 c =
     let b = c .before in
     let s = b .before .before in
-    let k = subst Within32 (b .before2 .given .1) (s .pre) in
+    let k = subst Asked (b .before2 .given .1) (s .pre) in
     omega (arith, mul-le-mul (k .0) (k .1))
 
 pub check-count-spec : {M : Type 1} → statement M
@@ -23,8 +23,12 @@ check-count-spec =
     tie.close
     (tie.spec
     (λ c. search needs)
-    (λ c. search needs)
-    (λ c. search needs)
+    (λ c. let s = c .before in stopped (s .args .before) _ Asked (λ r. tt) (c .match .keys2) (s .pre))
     mul-if1
-    (λ c. let s = c .before .before .before .before in decides (count-line (s .args .count)) (c .before .before .before2 .given .1) (ap when (sym (lt-ltb _ _ (c .if1 .taken)))))
-    (λ c. let s = c .before .before .before .before in decides (count-line (s .args .count)) (c .before .before .before2 .given .1) (ap when (sym (le-ltb _ _ (c .if1 .left))))))
+    (λ c.
+    let s = c .before .before .before .before in
+    (decides (s .args .before) (count-line (s .args .count)) (ap verdict-of (c .before .before .before2 .given .1)) (ap when (sym (lt-ltb _ _ (c .if1 .taken)))), tt))
+    (λ c.
+    let s = c .before .before .before .before in
+    let e = c .before .before .before2 .given .1 in
+    (decides (s .args .before) (count-line (s .args .count)) (ap verdict-of e) (ap when (sym (le-ltb _ _ (c .if1 .left)))), subst Asked e (s .pre))))

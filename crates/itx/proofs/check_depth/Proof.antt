@@ -20,5 +20,5 @@ check-depth-spec =
     (λ c κs. search needs)
     (λ c. search needs)
     (λ c. search needs)
-    (λ c. told (c .before .before) _ (c .enum-told .given .1))
-    (λ c. told (c .before .before .before) _ (c .before .checked .given .1)))
+    (λ c. (told (c .before .before) _ (c .enum-told .given .1), tt))
+    (λ c. (told (c .before .before .before) _ (c .before .checked .given .1), c .before .before .before .before .pre)))

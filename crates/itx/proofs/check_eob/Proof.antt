@@ -2,9 +2,9 @@
 use mathlib.Core.Path.{sym, ap, _∙_}
 use borrow.Author.Needs.{needs}
 use Rattle.whole.specs.Checks.{when}
-use Rattle.itx.specs.Answers.{verdict-of}
+use Rattle.itx.specs.Answers.{verdict-of, Asked}
 use Rattle.itx.specs.Calls.{plain, eob-line}
-use Rattle.itx.proofs.Opening.{decides, negative}
+use Rattle.itx.proofs.Opening.{decides, stopped, negative}
 use Rattle.itx.proofs.check_eob.Statement.{statement}
 use Rattle.itx.proofs.check_eob.Tie as tie
 
@@ -13,7 +13,11 @@ check-eob-spec =
     tie.close
     (tie.spec
     (λ c. search needs)
-    (λ c. search needs)
-    (λ c. search needs)
-    (λ c. let s = c .before .before .before in decides (eob-line (plain (s .args .eob))) (c .before .enum-told .given .1) (ap when (sym (negative (s .args .eob) (s .fits .eob) (c .if1 .taken)))))
-    (λ c. let s = c .before .before .before in ap verdict-of (c .before .enum-told .given .1) ∙ decides (eob-line (plain (s .args .eob))) (c .before .enum-told .given .1) (ap when (sym (negative (s .args .eob) (s .fits .eob) (c .if1 .left))))))
+    (λ c. let s = c .before in stopped (s .args .before) _ Asked (λ r. tt) (c .match .keys2) (s .pre))
+    (λ c.
+    let s = c .before .before .before in
+    (decides (s .args .before) (eob-line (plain (s .args .eob))) (ap verdict-of (c .before .enum-told .given .1)) (ap when (sym (negative (s .args .eob) (s .fits .eob) (c .if1 .taken)))), tt))
+    (λ c.
+    let s = c .before .before .before in
+    let e = ap verdict-of (c .before .enum-told .given .1) in
+    (e ∙ decides (s .args .before) (eob-line (plain (s .args .eob))) e (ap when (sym (negative (s .args .eob) (s .fits .eob) (c .if1 .left)))), s .pre)))

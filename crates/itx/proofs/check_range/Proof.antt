@@ -12,9 +12,9 @@ use Rattle.coefs.specs.declared.Found.{Found}
 use Rattle.coefs.specs.Coefs.{found}
 use Rattle.levels.specs.declared.Plan.{Plan}
 use Rattle.residual.proofs.Ends.{row-reach, lo-is, hi-is}
-use Rattle.itx.specs.Answers.{Enough}
+use Rattle.itx.specs.Answers.{verdict-of, Enough}
 use Rattle.itx.specs.Calls.{range-line}
-use Rattle.itx.proofs.Opening.{halted, decides-at}
+use Rattle.itx.proofs.Opening.{halted, decides}
 use Rattle.itx.proofs.check_range.Statement.{statement}
 use Rattle.itx.proofs.check_range.Tie as tie
 
@@ -42,8 +42,7 @@ check-range-spec =
     tie.close
     (tie.spec
     (λ c. search needs)
-    (λ c. search needs)
-    (λ c. halted (judged (line (c .before .before) ∷ [])) (c .enum-told .given .1))
+    (λ c. let s = c .before in halted (s .args .before) (judged (line s ∷ [])) (Enough _) (λ p d f. f) (c .match .keys2) (s .pre))
     (λ c κs. search needs)
     (λ c κs. subst (Enough _) (c .before .before .before .before .before2 .given .1) (c .before .before .before .before .before .before .pre))
     (λ c. search needs)
@@ -52,8 +51,8 @@ check-range-spec =
     let o = c .before .before in
     let a = o .before .before .before .before in
     let e = a .before .before2 .given .1 in
-    (decides-at (line (begun a)) e (told o (c .enum-told2 .given .1)), e))
+    (decides (begun a .args .before) (line (begun a)) (ap verdict-of e) (told o (c .enum-told .given .1)), e))
     (λ c.
     let o = c .before .before .before in
     let a = o .before .before .before .before in
-    (decides-at (line (begun a)) (a .before .before2 .given .1) (told o (c .before .found .given .1)), tt)))
+    (decides (begun a .args .before) (line (begun a)) (ap verdict-of (a .before .before2 .given .1)) (told o (c .before .found .given .1)), tt)))

@@ -8,7 +8,7 @@ use Rattle.itx.proofs.inv_txfm_add_live.Statement.{statement}
 use Rattle.itx.proofs.inv_txfm_add_live.Tie as tie
 
 abbrev given : tie.Start → Block
-given s = block (s .args .w) (s .args .h) (s .args .txtp) (s .args .depth) (s .args .coeff .now) (lent (s .args .dst .now) (s .args .offset) (s .args .stride .0))
+given s = block (s .args .w) (s .args .h) (s .args .txtp) (s .args .depth) (s .args .coeff .now) (lent (s .args .dst .now) (s .args .view))
 
 returns : tie.Need-returns
 returns c =

@@ -3,9 +3,9 @@ use mathlib.Core.Path.{_≡_, refl, sym, ap, _∙_, subst}
 use borrow.Author.Needs.{needs}
 use Rattle.bitdepth.specs.declared.Depth.{Depth}
 use Rattle.levels.specs.declared.Plan.{Plan}
-use Rattle.strided.specs.Planes.{in-pixels, lent}
+use Rattle.strided.specs.Planes.{spot, lent}
 use Rattle.itx.specs.Calls.{Block, live, verdict}
-use Rattle.itx.specs.Answers.{placed-of, block, Turned, Ready}
+use Rattle.itx.specs.Answers.{verdict-of, block, Lies, Ready}
 use Rattle.residual.specs.Inner.{Served}
 use Rattle.itx.specs.Demands as Demands
 use Rattle.itx.proofs.Accepted as Accepted
@@ -18,10 +18,10 @@ abbrev begun : tie.After-checked2 → tie.Start
 begun k = k .before .before .before .before .before
 
 abbrev given : tie.Start → Block
-given s = block (s .args .w) (s .args .h) (s .args .txtp) (s .args .depth) (s .args .coeff .now) (lent (s .args .dst .now) (s .args .offset) (s .args .stride .0))
+given s = block (s .args .w) (s .args .h) (s .args .txtp) (s .args .depth) (s .args .coeff .now) (lent (s .args .dst .now) (s .args .view))
 
 -- what the checks answered
-checked : (o : tie.After-check-live) → verdict (live (o .before .before .before .args .r)) (given (o .before .before .before)) ≡ placed-of (o .check-live .result)
+checked : (o : tie.After-check-live) → verdict (live (o .before .before .before .args .r)) (given (o .before .before .before)) ≡ verdict-of (o .check-live .result)
 checked o = sym (o .check-live .ensures .0 (o .before .before .before .args .dst .now) refl)
 
 -- what the acceptance told
@@ -33,13 +33,13 @@ module _ (k : tie.After-checked2) where
   d = k .checked2 .given .0 .1 .0
 
   accepted : Demands.Accepted (live (begun k .args .r)) (given (begun k)) p d
-  accepted = accepted-by (live (begun k .args .r)) (given (begun k)) p d (checked (k .before .before) ∙ ap placed-of (k .checked2 .given .1))
+  accepted = accepted-by (live (begun k .args .r)) (given (begun k)) p d (checked (k .before .before) ∙ ap verdict-of (k .checked2 .given .1))
 
-  turned : k .checked2 .given .0 .1 .1 .0 .0 ≡ in-pixels (begun k .args .stride .0)
-  turned = subst (Turned (begun k .args .stride .0)) (k .checked2 .given .1) (k .before .before .check-live .ensures .1)
+  turned : k .checked2 .given .0 .1 .1 .0 ≡ spot (begun k .args .view)
+  turned = subst (Lies (begun k .args .view)) (k .checked2 .given .1) (k .before .before .check-live .ensures .1)
 
-  ready : Ready p (begun k .args .offset) (k .checked2 .given .0 .1 .1 .0 .0) (begun k .args .dst .now) (begun k .args .coeff .now)
-  ready = let s = begun k .args in Accepted.ready (s .engine) (live (s .r)) (s .w) (s .h) (s .txtp) (s .depth) (s .offset) (s .stride .0) (s .dst .now) (s .coeff .now) p d accepted _ turned
+  ready : Ready p (k .checked2 .given .0 .1 .1 .0) (begun k .args .dst .now) (begun k .args .coeff .now)
+  ready = let s = begun k .args in Accepted.ready (s .engine) (live (s .r)) (given (begun k)) p d accepted _ turned
 
   served : Served (begun k .args .engine) p
   served = begun k .pre .served p (accepted .planned)
@@ -48,13 +48,19 @@ refusal : tie.Need-returns
 refusal c =
     let o = c .before .before .before in
     let s = o .before .before .before in
-    Accepted.refusal-left (s .args .engine) (live (s .args .r)) (s .args .w) (s .args .h) (s .args .txtp) (s .args .depth) (s .args .offset) (s .args .stride .0) (s .args .dst .now) (s .args .coeff .now) (c .before .checked .given .0 .0) (checked o ∙ ap placed-of (c .before .checked .given .1))
+    Accepted.refusal-left (s .args .engine) (live (s .args .r)) (given s) (c .before .checked .given .0 .0) (checked o ∙ ap verdict-of (c .before .checked .given .1))
 
-returns : tie.Need-returns-2
+-- the plane's check has found a place or stopped
+never : tie.Need-returns-2
+never c =
+    let o = c .before .before in
+    absurd (subst (Lies (o .before .before .before .args .view)) (c .enum-told .given .1) (o .check-live .ensures .1))
+
+returns : tie.Need-returns-3
 returns c =
     let k = c .before .before .before .before .before .before .before in
     let s = begun k .args in
-    Accepted.passes-left (s .engine) (live (s .r)) (s .w) (s .h) (s .txtp) (s .depth) (s .offset) (s .stride .0) (s .dst .now) (s .coeff .now) (p k) (d k) (accepted k) _ (turned k) (s .r) refl refl (c .before .before .before .by-passes .ensures)
+    Accepted.passes-left (s .engine) (live (s .r)) (given (begun k)) (p k) (d k) (accepted k) _ (turned k) (s .r) refl refl (c .before .before .before .by-passes .ensures)
 
 pub live-spec : {M : Type 1} → statement M
 live-spec =
@@ -63,9 +69,12 @@ live-spec =
     (λ c κs. search needs)
     (λ c. search needs)
     (λ c. search needs)
+    (λ c. search needs)
     (λ c κs. let k = c .before .before .before in (ready k, live-inside (live (begun k .args .r)) (given (begun k)) (p k) (d k) (accepted k), served k))
     (λ c. search needs)
     refusal
+    (λ c. search needs)
+    never
     (λ c. search needs)
     (λ c. search needs)
     returns)

@@ -16,7 +16,7 @@ use Rattle.itx.proofs.spec_inv_txfm_add.Statement.{statement}
 use Rattle.itx.proofs.spec_inv_txfm_add.Tie as tie
 
 abbrev given : tie.Start → Block
-given s = block (s .args .w) (s .args .h) (s .args .txtp) (s .args .depth) (s .args .coeff .now) (lent (s .args .dst .now) (s .args .offset) (s .args .stride .0))
+given s = block (s .args .w) (s .args .h) (s .args .txtp) (s .args .depth) (s .args .coeff .now) (lent (s .args .dst .now) (s .args .view))
 
 -- what the look at the type told
 told : (o : tie.After-has-adst) {t : Bool} → o .has-adst .result ≡ t → let s = o .before .before in adst-planned (plan (s .args .w) (s .args .h) (s .args .txtp)) ≡ t
@@ -27,7 +27,7 @@ returns-2 c =
     let o = c .before .before .before in
     let e = o .before .before .before in
     let s = e .before .before .before in
-    spec-meets (plain (s .args .eob)) (given s) (told (e .before) (e .if1 .left)) (subst (λ (z : ℤ). Leaves (outcome-of (way-by Spec) (plain z) (given s) (verdict (plain z) (given s))) (answer-of (o .plain .result)) (o .plain .last .1 .0) (o .plain .last .1 .1 .1 .1 .0)) (toZ-ofZ w32 (s .args .eob) (s .fits .eob)) (o .plain .ensures))
+    spec-meets (plain (s .args .eob)) (given s) (told (e .before) (e .if1 .left)) (subst (λ (z : ℤ). Leaves (outcome-of (way-by Spec) (plain z) (given s) (verdict (plain z) (given s))) (answer-of (o .plain .result)) (o .plain .last .1 .0) (o .plain .last .1 .1 .1 .0)) (toZ-ofZ w32 (s .args .eob) (s .fits .eob)) (o .plain .ensures))
 
 pub spec-inv-txfm-add-spec : {M : Type 1} → statement M
 spec-inv-txfm-add-spec =

@@ -11,7 +11,7 @@ use Rattle.itx.proofs.spec_inv_txfm_add_live.Statement.{statement}
 use Rattle.itx.proofs.spec_inv_txfm_add_live.Tie as tie
 
 abbrev given : tie.Start → Block
-given s = block (s .args .w) (s .args .h) (s .args .txtp) (s .args .depth) (s .args .coeff .now) (lent (s .args .dst .now) (s .args .offset) (s .args .stride .0))
+given s = block (s .args .w) (s .args .h) (s .args .txtp) (s .args .depth) (s .args .coeff .now) (lent (s .args .dst .now) (s .args .view))
 
 -- what the look at the type told
 told : (o : tie.After-has-adst) {t : Bool} → o .has-adst .result ≡ t → let s = o .before .before in adst-planned (plan (s .args .w) (s .args .h) (s .args .txtp)) ≡ t

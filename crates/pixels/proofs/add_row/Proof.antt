@@ -1,13 +1,12 @@
 -- `pixels::add_row` meets its contract.
-use mathlib.Core.Path.{_≡_, refl, sym, ap, _∙_, subst⁻¹}
-use mathlib.Core.List.{List, [], _∷_}
+use mathlib.Core.Path.{_≡_, refl, ap, _∙_, subst⁻¹}
+use mathlib.Core.List.{[], _∷_}
 use Prim.Native.Nat.{ℕ, _+_, _-_, _≤_, _<_}
 use native.Mathlib.Nat.{le-trans}
-use native.Mathlib.Numerals.{add-one}
 use native.Mathlib.Omega.{arith}
 use lib.Dec.{lit≤}
 use lib.IntN.{ℤ, pos, natAbs}
-use lib.ListN.{length, set, getD}
+use lib.ListN.{length}
 use mir.Syntax.{w32}
 use mir.Val.{toZ, ofZ}
 use mir.ValLaws.{toZ-ofZ}
@@ -16,9 +15,9 @@ use Rattle.whole.specs.Lists.{at}
 use Rattle.whole.proofs.Machine.{var, lit, _⊕_, _≫_, bound}
 use Rattle.itx_1d.specs.declared.Kind.{Kind}
 use Rattle.itx_1d.proofs.Manners.{split}
-use Rattle.pixels.specs.Adds.{add-pixel, add-row}
+use Rattle.pixels.specs.Adds.{add-row}
 use Rattle.pixels.specs.Inner.{left}
-use Rattle.pixels.proofs.Pixels.{row-length, row-other}
+use Rattle.pixels.proofs.Pixels.{row-length, row-more}
 use Rattle.pixels.proofs.add_row.Statement.{statement}
 use Rattle.pixels.proofs.add_row.Tie as tie
 
@@ -80,17 +79,13 @@ unfolding add-row
 loop-holds c = (refl, omega arith)
 
 loop-again : tie.Need-loop-again Inv-loop μ-loop
-unfolding add-row
 loop-again c =
     let i = c .before .before .before .before in
     let a = s i .args in
-    let l = i .before .loop in
-    let place = a .from + l .x in
-    -- the pixel is still what it was
-    let p = ap (λ (ps : List ℕ). getD ps place 0) (l .inv .0) ∙ row-other (a .top) (a .ps .now) (a .from) (added (s i)) (l .x) place (λ x m e. omega arith) in
-    let v = value (c .before .before) in
-    let q = c .add-pixel .ensures ∙ (λ k. add-pixel (a .top) (p k) (v k)) in
-    ((λ k. set (l .inv .0 k) place (q k)) ∙ ap (add-row (a .top) (a .ps .now) (a .from) (added (s i))) (sym (add-one (l .x))), omega (arith, i .loop-test .taken))
+    let l = i .before .loop in (
+      row-more (a .top) (a .ps .now) (a .from) (added (s i)) (l .x) _ (l .inv .0) (value (c .before .before)) (c .add-pixel .ensures),
+      omega (arith, i .loop-test .taken),
+    )
 
 returns : tie.Need-returns Inv-loop μ-loop
 returns c =

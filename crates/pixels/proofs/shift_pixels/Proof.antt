@@ -1,16 +1,14 @@
 -- `pixels::shift_pixels` meets its contract.
-use mathlib.Core.Path.{_≡_, refl, sym, ap, _∙_, subst⁻¹}
-use mathlib.Core.List.{List}
-use Prim.Native.Nat.{ℕ, _+_, _-_, _≤_, _<_}
-use native.Mathlib.Numerals.{add-one}
+use mathlib.Core.Path.{_≡_, refl, ap, _∙_, subst⁻¹}
+use Prim.Native.Nat.{_+_, _-_, _≤_, _<_}
 use native.Mathlib.Omega.{arith}
 use lib.IntN.{ℤ, natAbs}
-use lib.ListN.{length, set, getD}
+use lib.ListN.{length}
 use mir.Syntax.{w32}
 use mir.Val.{toZ, ofZ}
 use mir.ValLaws.{toZ-ofZ}
-use Rattle.pixels.specs.Adds.{add-pixel, add-row}
-use Rattle.pixels.proofs.Pixels.{row-length, row-other}
+use Rattle.pixels.specs.Adds.{add-row}
+use Rattle.pixels.proofs.Pixels.{row-length, row-more}
 use Rattle.pixels.proofs.shift_pixels.Statement.{statement}
 use Rattle.pixels.proofs.shift_pixels.Tie as tie
 
@@ -39,17 +37,13 @@ unfolding add-row
 loop-holds c = (refl, omega arith)
 
 loop-again : tie.Need-loop-again Inv-loop μ-loop
-unfolding add-row
 loop-again c =
     let i = c .before .before in
     let a = s i .args in
-    let l = i .before .loop in
-    let place = a .from + l .x in
-    let v : ℕ → ℤ = λ x. toZ w32 (ofZ w32 (a .v)) in
-    -- the pixel is still what it was
-    let p = ap (λ (ps : List ℕ). getD ps place 0) (l .inv .0) ∙ row-other (a .top) (a .ps .now) (a .from) v (l .x) place (λ x m e. omega arith) in
-    let q = c .shift-pixel .ensures ∙ (λ k. add-pixel (a .top) (p k) (v 0)) in
-    ((λ k. set (l .inv .0 k) place (q k)) ∙ ap (add-row (a .top) (a .ps .now) (a .from) v) (sym (add-one (l .x))), omega (arith, i .loop-test .taken))
+    let l = i .before .loop in (
+      row-more (a .top) (a .ps .now) (a .from) (λ x. toZ w32 (ofZ w32 (a .v))) (l .x) _ (l .inv .0) refl (c .shift-pixel .ensures),
+      omega (arith, i .loop-test .taken),
+    )
 
 returns : tie.Need-returns Inv-loop μ-loop
 returns c =
