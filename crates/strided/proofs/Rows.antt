@@ -1,5 +1,5 @@
 -- Rows of a plane: whether they are inside, that two of them do not meet, and what the row lookup hands back.
-use mathlib.Core.Path.{_≡_, refl, sym, ap, _∙_}
+use mathlib.Core.Path.{_≡_, refl, sym, ap, _∙_, subst, subst⁻¹}
 use mathlib.Core.Logic.{_≢_, _⊎_, ⊎-elim}
 use mathlib.Core.Bool.{Bool, true, false, not, _&&_}
 use mathlib.Core.List.{List, []}
@@ -7,6 +7,7 @@ use Prim.Native.Nat.{ℕ, suc, _+_, _-_, _*_, _%_, _≤_, _<_}
 use native.Mathlib.Nat.{mul-le-mul-right}
 use native.Mathlib.Omega.{arith}
 use borrow.Author.Tests.{ltb-true, ltb-false, leb-true, le-leb, lt-leb}
+use denote.Ref.{RefT}
 use lib.Dec.{eqb, ltb, leb}
 use lib.IntN.{ℤ, pos, negsuc, natAbs}
 use lib.ListN.{getD, length, take, drop, length-drop}
@@ -22,7 +23,7 @@ use Rattle.levels.proofs.Sizes.{shift-sided, side-bounds}
 use Rattle.strided.specs.declared.Part.{Part}
 use Rattle.strided.specs.declared.Spot.{Spot}
 use Rattle.strided.specs.declared.View.{View}
-use Rattle.strided.specs.Planes.{in-pixels, starts, within, rows-outside, spot, begins, spot-outside, spotted, Spotted, Plane, place, accepted, part-when, has-row}
+use Rattle.strided.specs.Planes.{in-pixels, starts, within, rows-outside, spot, begins, spot-outside, spotted, Spotted, Plane, place, accepted, part-when, has-row, IsPart}
 
 and-true : (s t : Bool) → s && t ≡ true → (s ≡ true) × (t ≡ true)
 and-true true t e = (refl, e)
@@ -183,9 +184,16 @@ module _ (a : Plane) (w h y : ℕ) where
     row-pixel x l = ap (λ (ps : List ℕ). getD ps x 0) (by-test e) ∙ getD-take w (drop (begins (spot v) y) (a .pixels)) x 0 l ∙ getD-drop (begins (spot v) y) (a .pixels) x 0
 
   -- in any case the part is inside
-  pub part-fits : found has-it .from + found has-it .size ≤ size
-  part-fits = go (has-it) refl
+  pub part-fits : {p : Part} → p ≡ found has-it → p .from + p .size ≤ size
+  part-fits e = subst⁻¹ (λ (p : Part). p .from + p .size ≤ size) e (go has-it refl)
     where
       go : (t : Bool) → has-it ≡ t → found t .from + found t .size ≤ size
       go true e = fits e
       go false e = omega arith
+
+-- a slice cut from one place to another is the part between them
+pub is-part : (s r : RefT (List ℕ)) {p q : Part} → p ≡ q → r .ptr .0 ≡ s .ptr .0 → r .ptr .1 ≡ s .ptr .1 + p .from * 2
+    → r .now ≡ take (p .from + p .size - p .from) (drop (p .from) (s .now)) → IsPart s r q
+is-part s r {p} e a b c =
+    let n : p .from + p .size - p .from ≡ p .size = omega arith in
+    subst (IsPart s r) e (record { slice = a; at = b; elements = c ∙ ap (λ (n : ℕ). take n (drop (p .from) (s .now))) n })

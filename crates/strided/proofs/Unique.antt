@@ -1,4 +1,4 @@
--- No second answer meets the contract of in_pixels, of rows, of spot, or of row: what it hands back points to one place and holds one list.
+-- No second answer meets the contract of in_pixels, of rows, of spot, of row or of row_mut: what these two hand back points to one place and holds one list.
 use mathlib.Core.Path.{_≡_, refl, sym, _∙_}
 use mathlib.Core.Bool.{cond}
 use mathlib.Core.List.{List}

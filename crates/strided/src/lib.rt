@@ -154,7 +154,17 @@ fn lookup(size: usize, view: View, w: usize, h: usize, y: usize) -> Part
 }
 
 // Row y of a block, as that part of the plane, or an empty part.
-pub fn row<'a>(dst: &'a mut [u16], view: View, w: usize, h: usize, y: usize) -> &'a mut [u16]
+pub fn row<'a>(dst: &'a [u16], view: View, w: usize, h: usize, y: usize) -> &'a [u16]
+    ensures { λ r. ⌜ IsPart (dst .entry) r (row-part (length (now (dst .entry))) view w h y) ⌝ }
+{
+    let part = lookup(dst.len(), view, w, h, y);
+    let from = part.from;
+    let end = from + part.size;
+    &dst[from..end]
+}
+
+// The same of a plane that can be written.
+pub fn row_mut<'a>(dst: &'a mut [u16], view: View, w: usize, h: usize, y: usize) -> &'a mut [u16]
     ensures { λ r. ⌜ IsPart (dst .entry) r (row-part (length (now (dst .entry))) view w h y) ⌝ }
 {
     let part = lookup(dst.len(), view, w, h, y);
