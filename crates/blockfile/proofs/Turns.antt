@@ -108,14 +108,14 @@ module _ {s : List ℕ} {at : ℕ} {last : Bool} {out : List ℕ} {put : ℕ} (f
 -- ---- a record
 
 -- the block's own pixels, with this stride
-abbrev by : ℤ → View
-by stride = record { offset = 0; stride = record { 0 = stride } }
+abbrev by : Head → ℤ → View
+by h stride = record { offset = 0; stride = record { 0 = stride }; columns = h .w; rows = h .h }
 
 pub acted-by : {h : Head} {cs cs′ : List ℤ} {ps ps′ : List ℕ} {stride eob : ℤ} {a : Answer} {r : ℕ} → stride ≡ pos (2 * h .w) → eob ≡ pos (h .eob) → r ≡ a .number
-    → Meets (plain eob) (Answers.block (h .w) (h .h) (h .txtp) (h .depth) cs (lent ps (by stride))) a ps′ cs′ → Acted h cs ps cs′ ps′ r
+    → Meets (plain eob) (Answers.block (h .w) (h .h) (h .txtp) (h .depth) cs (lent ps (by h stride))) a ps′ cs′ → Acted h cs ps cs′ ps′ r
 acted-by {h} {cs} {cs′} {ps} {ps′} {stride} {eob} e f is m =
-    let same : outcome (plain eob) (Answers.block (h .w) (h .h) (h .txtp) (h .depth) cs (lent ps (by stride))) ≡ call (record { head = h; coefficients = cs; pixels = ps }) =
-    (λ i. outcome (plain (f i)) (Answers.block (h .w) (h .h) (h .txtp) (h .depth) cs (lent ps (by (e i))))) in
+    let same : outcome (plain eob) (Answers.block (h .w) (h .h) (h .txtp) (h .depth) cs (lent ps (by h stride))) ≡ call (record { head = h; coefficients = cs; pixels = ps }) =
+    (λ i. outcome (plain (f i)) (Answers.block (h .w) (h .h) (h .txtp) (h .depth) cs (lent ps (by h (e i))))) in
     record {
       number = is ∙ ap (λ (x : Answer). x .number) (m .answer-is) ∙ ap (λ (o : Outcome). o .answer .number) same;
       coefficients-left = m .coefs-are ∙ ap (λ (o : Outcome). o .coefs) same;

@@ -15,7 +15,7 @@ use Rattle.blockfile.specs.Loop.{Step, step}
 abbrev pub call : Block → Outcome
 call b =
     let h = b .head in
-    outcome (plain (pos (h .eob))) (Answers.block (h .w) (h .h) (h .txtp) (h .depth) (b .coefficients) (lent (b .pixels) (whole (h .w))))
+    outcome (plain (pos (h .eob))) (Answers.block (h .w) (h .h) (h .txtp) (h .depth) (b .coefficients) (lent (b .pixels) (whole (h .w) (h .h))))
 
 unfoldable pub left : Block → Outcome → Done Block
 left b o = cond (eqb (o .answer .number) 0) (done (record { head = b .head; coefficients = o .coefs; pixels = o .pixels })) (bad (o .answer .number))

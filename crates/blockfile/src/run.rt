@@ -51,12 +51,14 @@ fn act(head: Head, coefficients: &mut [i32], pixels: &mut [u16]) -> u8
     requires { ⌜ Small head ⌝ }
     ensures { λ r. ⌜ Acted head (now (coefficients .entry)) (now (pixels .entry)) (now (coefficients .exit)) (now (pixels .exit)) r ⌝ }
 {
+    let w = head.w as usize;
+    let h = head.h as usize;
     let view = View {
         offset: 0,
         stride: ByteStride((2 * head.w) as i32),
+        columns: w,
+        rows: h,
     };
-    let w = head.w as usize;
-    let h = head.h as usize;
     let txtp = head.txtp as usize;
     let depth = head.depth as usize;
     let eob = head.eob as i32;

@@ -1,5 +1,5 @@
 -- What an accepted block gives the two ways, and what they leave is the outcome.
-use mathlib.Core.Path.{_≡_, sym, ap, _∙_, subst}
+use mathlib.Core.Path.{_≡_, sym, ap, _∙_, subst, subst⁻¹}
 use mathlib.Core.Bool.{Bool, true, false, not, cond, _&&_, _||_}
 use mathlib.Core.List.{List}
 use Prim.Native.Nat.{ℕ, _*_, _≤_}
@@ -29,6 +29,7 @@ use Rattle.levels.proofs.Sizes.{plan-of, plan-sided}
 use Rattle.levels.proofs.Types.{by-types}
 use Rattle.strided.specs.Planes.{spot, spot-outside}
 use Rattle.strided.specs.declared.Spot.{Spot}
+use Rattle.strided.proofs.Rows.{columns-in, rows-in}
 use Rattle.residual.specs.declared.Engine.{Engine}
 use Rattle.residual.specs.Blocks.{way-by, residual, shortcut}
 use Rattle.residual.specs.Inner.{Sized}
@@ -135,7 +136,9 @@ module _ (e : Engine) (call : Call) (b : Block) where
         count = ltb-false (length c) (p .w * p .h) (a .enough);
         small = λ i l. let m = row-reach d in inside-abs (at c i) (low (row-range d)) (high (row-range d)) (first-none (p .w * p .h) (λ i. outside (at c i) (low (row-range d)) (high (row-range d))) (a .ranged) i l) (omega (arith, size m, m .small)) (omega (arith, m .small));
       };
-      inside = ap (spot-outside (length ps) (p .w) (p .h)) turned ∙ a .placed .inside;
+      columns-in = subst⁻¹ (λ (s : Spot). s .columns ≤ p .w) turned (columns-in (p .w) (p .h) (b .plane .view) (a .placed .seen) .1);
+      rows-in = subst⁻¹ (λ (s : Spot). s .rows ≤ p .h) turned (rows-in (p .w) (p .h) (b .plane .view) (a .placed .seen) .1);
+      inside = ap (spot-outside (length ps)) turned ∙ a .placed .inside;
     }
 
     abbrev long : ℕ → Outcome
@@ -150,7 +153,7 @@ module _ (e : Engine) (call : Call) (b : Block) where
         let o = q ∙ sym (taken false f) in
         record {
           answer-is = ap acceptance (m .mark-is) ∙ ap (λ (o : Outcome). o .answer) o;
-          pixels-are = m .pixels-are ∙ ap (λ (s : Spot). added p d s ps (residual (way-by e p d) c r)) turned ∙ ap (λ (o : Outcome). o .pixels) o;
+          pixels-are = m .pixels-are ∙ ap (λ (s : Spot). added d s ps (residual (way-by e p d) c r)) turned ∙ ap (λ (o : Outcome). o .pixels) o;
           coefs-are = m .coefs-are ∙ ap (λ (o : Outcome). o .coefs) o;
         }
 
@@ -159,6 +162,6 @@ module _ (e : Engine) (call : Call) (b : Block) where
         let o = sym (taken true f) in
         record {
           answer-is = ap (λ (o : Outcome). o .answer) o;
-          pixels-are = m .pixels-are ∙ ap (λ (s : Spot). added p d s ps (λ y x. shortcut p (at c 0))) turned ∙ ap (λ (o : Outcome). o .pixels) o;
+          pixels-are = m .pixels-are ∙ ap (λ (s : Spot). added d s ps (λ y x. shortcut p (at c 0))) turned ∙ ap (λ (o : Outcome). o .pixels) o;
           coefs-are = m .coefs-are ∙ ap (λ (o : Outcome). o .coefs) o;
         }

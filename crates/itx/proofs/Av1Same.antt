@@ -21,13 +21,16 @@ use Rattle.bitdepth.specs.declared.Depth.{Depth}
 use Rattle.bitdepth.specs.declared.Depth.the-variants.{Eight, Ten, Twelve}
 use Rattle.bitdepth.specs.Depths.{row-range, column-range, maximum}
 use Rattle.levels.specs.declared.Plan.{Plan}
+use native.Mathlib.Omega.{arith}
 use Rattle.strided.specs.Planes.{spot, begins}
+use Rattle.strided.proofs.Rows.{columns-in}
 use Rattle.pixels.specs.Adds.{add-pixel}
 use Rattle.itx.specs.Av1.{bit-depth, held, av1-way, av1-outcome}
 use Rattle.itx.specs.Calls.{Block, Call, plain, Outcome, verdict, short, live-rows, by-shortcut, by-passes, outcome-of, outcome}
 use Rattle.itx.specs.Demands.{Accepted, Announced}
 use Rattle.pixels.proofs.Pixels.{rows-ext}
 use Rattle.itx.proofs.Demand3.{demand-3}
+use Rattle.itx.proofs.Verdicts.{accepted-by}
 use Rattle.residual.specs.Blocks.{entered, row, middle, column, residual, marked, prescale, if-wht, way}
 
 -- ---- number by number
@@ -76,16 +79,17 @@ instead true s o o′ f e = refl
 instead false s o o′ f e = f e
 
 module _ (b : Block) where
-  passes-av1 : (p : Plan) (d : Depth) (r : ℕ) → marked (way p d) (b .coefs) r ≡ false → by-passes b p d (way p d) r ≡ by-passes b p d (av1-way p d) r
-  passes-av1 p d r e =
+  passes-av1 : (call : Call) (p : Plan) (d : Depth) (r : ℕ) → Accepted call b p d → marked (way p d) (b .coefs) r ≡ false → by-passes b p d (way p d) r ≡ by-passes b p d (av1-way p d) r
+  passes-av1 call p d r good e =
       let 𝓦 = av1-way p d in
       let c = b .coefs in
       let n = p .w * p .h in
+      let v = b .plane .view .columns in
       let none = ap₂ (λ s t. s || t) (any-none r (λ y. row 𝓦 c y .mark) (λ y l. refl)) (any-none (p .w) (λ x. column 𝓦 c r x .mark) (λ x l. refl)) in
       λ i. record {
         answer = acceptance ((e ∙ sym none) i);
-        pixels = rows-ext (maximum d) (b .plane .pixels) (begins (spot (b .plane .view))) (residual (way p d) c r) (residual 𝓦 c r) (p .w) (p .h)
-            (λ y x k l. ap (add-pixel (maximum d) _) (residual-av1 p d c r e y x l)) i;
+        pixels = rows-ext (maximum d) (b .plane .pixels) (begins (spot (b .plane .view))) (residual (way p d) c r) (residual 𝓦 c r) v (b .plane .view .rows)
+            (λ y x k l. ap (add-pixel (maximum d) _) (residual-av1 p d c r e y x (omega (arith, l, columns-in (p .w) (p .h) (b .plane .view) (good .placed .seen) .1)))) i;
         coefs = replicate n (pos 0) ++ drop n c;
       }
 
@@ -94,13 +98,13 @@ module _ (b : Block) where
       → outcome call b .answer .mark ≡ false → outcome call b ≡ av1-outcome b p d
   announced-av1 p d good a e =
       let same = demand-3 b p d good a in
-      same ∙ passes-av1 p d (p .h) (sym (ap (λ (o : Outcome). o .answer .mark) same) ∙ e)
+      same ∙ passes-av1 (plain (pos 0)) p d (p .h) good (sym (ap (λ (o : Outcome). o .answer .mark) same) ∙ e)
 
   -- every call on every block, refused ones too, by the specification's passes; where the shortcut is taken it is on both sides
   pub unmarked-av1 : (call : Call) → outcome call b .answer .mark ≡ false → outcome call b ≡ outcome-of av1-way call b (verdict call b)
   unfolding outcome
-  unmarked-av1 call = left (verdict call b)
+  unmarked-av1 call = left (verdict call b) refl
     where
-      left : (v : Check (Plan × Depth)) → outcome-of way call b v .answer .mark ≡ false → outcome-of way call b v ≡ outcome-of av1-way call b v
-      left (refuse n i) e = refl
-      left (accept (p, d)) e = instead (short call p) (by-shortcut b p d) _ _ (passes-av1 p d (live-rows call p)) e
+      left : (v : Check (Plan × Depth)) → verdict call b ≡ v → outcome-of way call b v .answer .mark ≡ false → outcome-of way call b v ≡ outcome-of av1-way call b v
+      left (refuse n i) f e = refl
+      left (accept (p, d)) f e = instead (short call p) (by-shortcut b p d) _ _ (passes-av1 call p d (live-rows call p) (accepted-by call b p d f)) e

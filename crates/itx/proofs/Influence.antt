@@ -70,10 +70,10 @@ module _ (call : Call) (b : Block) (c : List ℤ) (ps : List ℕ) (alike : (i : 
       let area : p .w * p .h ≡ b .w * b .h = ap₂ (λ (u v : ℕ). u * v) e f in
       let same : (i : ℕ) → i < p .w * p .h → at (b .coefs) i ≡ at c i = λ i l. alike i (subst (λ (k : ℕ). i < k) area l) in
       let enough = ap when (subst⁻¹ (λ (k : ℕ). ltb (length (b .coefs)) k ≡ ltb (length c) k) area as-enough) in
-      let inside = ap (λ (n : ℕ). when (spot-outside n (p .w) (p .h) (spot (b .plane .view)))) as-many in
+      let inside = ap (λ (n : ℕ). when (spot-outside n (spot (b .plane .view)))) as-many in
       let ranged = first-ext (p .w * p .h) _ _ (λ i l. ap (λ (z : ℤ). outside z (low m) (high m)) (same i l)) in
       let covered = stray-alike call p (b .coefs) c same in
-      Checks.alike (table call b) (table call (other b c ps)) (p, d) (refl, refl, (refl, refl, (refl, enough, (refl, refl, (refl, inside, (refl, ranged, (refl, covered, tt)))))))
+      Checks.alike (table call b) (table call (other b c ps)) (p, d) (refl, refl, (refl, refl, (refl, enough, (refl, refl, (refl, refl, (refl, inside, (refl, ranged, (refl, covered, tt))))))))
 
   pub same-verdict : verdict call b ≡ verdict call (other b c ps)
   same-verdict = sized (plan (b .w) (b .h) (b .type)) refl
@@ -105,8 +105,8 @@ module _ (call : Call) (b : Block) (c : List ℤ) (ps : List ℕ) (alike : (i : 
     added-alike y x =
         ap₂ (λ (s l : ℤ). cond (short call p) s l) (ap (shortcut p) (same 0 (area-positive b p d call good))) (residual-alike (way p d) (b .coefs) c same (live-rows call p) y x)
 
-    -- a pixel of the block that is the same before is the same afterwards
-    pub same-pixel : (y x : ℕ) → y < p .h → x < p .w → getD (b .plane .pixels) (place (b .plane) y x) 0 ≡ getD ps (place (b .plane) y x) 0
+    -- a visible pixel that is the same before is the same afterwards
+    pub same-pixel : (y x : ℕ) → y < b .plane .view .rows → x < b .plane .view .columns → getD (b .plane .pixels) (place (b .plane) y x) 0 ≡ getD ps (place (b .plane) y x) 0
         → getD (outcome call b .pixels) (place (b .plane) y x) 0 ≡ getD (outcome call (other b c ps) .pixels) (place (b .plane) y x) 0
     same-pixel y x l g e =
         pixel-rule call b p d good y x l g ∙ (λ i. add-pixel (maximum d) (e i) (added-alike y x i)) ∙ sym (pixel-rule call (other b c ps) p d accepted-too y x l g)

@@ -7,6 +7,7 @@ pub mod Shortcut
 pub mod Demand3
 pub mod Av1Same
 pub mod Influence
+pub mod Visible
 pub mod Known
 pub mod Opening
 pub mod Chain

@@ -8,7 +8,7 @@ use native.Mathlib.Nat.{le-refl}
 use native.Mathlib.Omega.{arith}
 use borrow.Author.Tests.{ltb-false}
 use lib.IntN.{ℤ, pos}
-use lib.ListN.{getD, length, replicate, drop}
+use lib.ListN.{getD, length, set, replicate, drop}
 use lib.Seq.{getD-set-other}
 use Rattle.whole.specs.Lists.{at}
 use Rattle.whole.specs.Checks.{Check, accept, refuse}
@@ -51,10 +51,13 @@ module _ (call : Call) (b : Block) (p : Plan) (d : Depth) (a : Accepted call b p
   pub answer-is : outcome call b .answer ≡ acceptance (cond (short call p) false (marked (way p d) (b .coefs) (live-rows call p)))
   answer-is = either (λ (o : Outcome). o .answer) (λ (t : Bool). acceptance (cond t false (marked (way p d) (b .coefs) (live-rows call p)))) refl refl
 
-  pixels-are : outcome call b .pixels ≡ painted (maximum d) (b .plane) (p .w) (p .h) (added call b p d)
+  pub coefs-are : outcome call b .coefs ≡ cond (short call p) (set (b .coefs) 0 (pos 0)) (let n = p .w * p .h in replicate n (pos 0) ++ drop n (b .coefs))
+  coefs-are = either (λ (o : Outcome). o .coefs) (λ (t : Bool). cond t (set (b .coefs) 0 (pos 0)) (let n = p .w * p .h in replicate n (pos 0) ++ drop n (b .coefs))) refl refl
+
+  pub pixels-are : outcome call b .pixels ≡ painted (maximum d) (b .plane) (added call b p d)
   pixels-are =
       either (λ (o : Outcome). o .pixels)
-      (λ (t : Bool). painted (maximum d) (b .plane) (p .w) (p .h) (λ y x. cond t (shortcut p (at (b .coefs) 0)) (residual (way p d) (b .coefs) (live-rows call p) y x))) refl refl
+      (λ (t : Bool). painted (maximum d) (b .plane) (λ y x. cond t (shortcut p (at (b .coefs) 0)) (residual (way p d) (b .coefs) (live-rows call p) y x))) refl refl
 
   abbrev v : View
   v = b .plane .view
@@ -62,19 +65,19 @@ module _ (call : Call) (b : Block) (p : Plan) (d : Depth) (a : Accepted call b p
   abbrev size : ℕ
   size = length (b .plane .pixels)
 
-  -- the pixel rule
-  pub pixel-rule : (y x : ℕ) → y < p .h → x < p .w
+  -- the pixel rule, of every visible pixel
+  pub pixel-rule : (y x : ℕ) → y < v .rows → x < v .columns
       → getD (outcome call b .pixels) (place (b .plane) y x) 0 ≡ add-pixel (maximum d) (getD (b .plane .pixels) (place (b .plane) y x) 0) (added call b p d y x)
   pixel-rule y x l g =
       ap (λ (ps : List ℕ). getD ps (place (b .plane) y x) 0) pixels-are
-      ∙ pixel-set (maximum d) (b .plane .pixels) (begins (spot v)) (p .w) (p .h) (row-fits size (p .w) (p .h) v (a .placed)) (rows-apart size (p .w) (p .h) v (a .placed)) (added call b p d) (p .h) y x (le-refl _) l g
+      ∙ pixel-set (maximum d) (b .plane .pixels) (begins (spot v)) (v .columns) (v .rows) (row-fits size (p .w) (p .h) v (a .placed)) (rows-apart size (p .w) (p .h) v (a .placed)) (added call b p d) (v .rows) y x (le-refl _) l g
 
   -- every other pixel stays, and so does the number of pixels
-  pub pixel-stays : (i : ℕ) → ((y x : ℕ) → y < p .h → x < p .w → i ≢ place (b .plane) y x) → getD (outcome call b .pixels) i 0 ≡ getD (b .plane .pixels) i 0
-  pixel-stays i f = ap (λ (ps : List ℕ). getD ps i 0) pixels-are ∙ pixel-kept (maximum d) (b .plane .pixels) (begins (spot v)) (added call b p d) (p .w) (p .h) i f
+  pub pixel-stays : (i : ℕ) → ((y x : ℕ) → y < v .rows → x < v .columns → i ≢ place (b .plane) y x) → getD (outcome call b .pixels) i 0 ≡ getD (b .plane .pixels) i 0
+  pixel-stays i f = ap (λ (ps : List ℕ). getD ps i 0) pixels-are ∙ pixel-kept (maximum d) (b .plane .pixels) (begins (spot v)) (added call b p d) (v .columns) (v .rows) i f
 
   pub pixels-length : length (outcome call b .pixels) ≡ length (b .plane .pixels)
-  pixels-length = ap length pixels-are ∙ rows-length (maximum d) (b .plane .pixels) (begins (spot v)) (added call b p d) (p .w) (p .h)
+  pixels-length = ap length pixels-are ∙ rows-length (maximum d) (b .plane .pixels) (begins (spot v)) (added call b p d) (v .columns) (v .rows)
 
   -- a coefficient past w·h stays
   pub coefficient-stays : (i : ℕ) → p .w * p .h ≤ i → at (outcome call b .coefs) i ≡ at (b .coefs) i

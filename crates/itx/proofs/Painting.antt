@@ -33,28 +33,33 @@ zeros-at (suc n) zero = refl
 zeros-at (suc n) (suc i) = zeros-at n i
 
 module _ {e : Engine} {p : Plan} {d : Depth} {s : Spot} {r : ℕ} {ps : List ℕ} {c : List ℤ} {n : ℕ} {t : List ℤ} {mark : Bool} (m : ResolvedIn n e p d c r t mark) where
-  pub adding : Sized p → p .h * p .w ≤ n → spot-outside (length ps) (p .w) (p .h) s ≡ false → Adding s (p .w) (p .w) (p .h) ps t
-  adding k room inside =
-      record {
-        height = side-bounds (p .h) (k .height) .1;
-        step-small = side-bounds (p .w) (k .width) .1;
-        inside = inside;
-        numbers = λ y l. record { there = λ x b. omega (arith, by-row (p .w) (p .h) y x l b, room, m .long); small = λ x b. m .small y x l b };
-      }
+  module _ (columns-in : s .columns ≤ p .w) (rows-in : s .rows ≤ p .h) where
+    pub adding : Sized p → p .h * p .w ≤ n → spot-outside (length ps) s ≡ false → Adding s (p .w) ps t
+    adding k room inside =
+        record {
+          height = omega (arith, rows-in, side-bounds (p .h) (k .height) .1);
+          step-small = side-bounds (p .w) (k .width) .1;
+          inside = inside;
+          numbers = λ y l. record {
+            there = λ x b. omega (arith, by-row (p .w) (p .h) y x (omega (arith, l, rows-in)) (omega (arith, b, columns-in)), room, m .long);
+            small = λ x b. m .small y x (omega (arith, l, rows-in)) (omega (arith, b, columns-in));
+          };
+        }
 
-  pub painted : {top : ℕ} {ps′ : List ℕ} {c′ : List ℤ} → top ≡ maximum d
-      → ps′ ≡ add-rows top ps (begins s) (λ y x. left (p .columns) (at t (y * p .w + x))) (p .w) (p .h)
-      → c′ ≡ replicate (p .w * p .h) (pos 0) ++ drop (p .w * p .h) c → Passed e p d s r ps c mark ps′ c′
-  painted top-is added cleared =
-      let v : ℕ → ℕ → ℤ = λ y x. left (p .columns) (at t (y * p .w + x)) in
-      let u = residual (way-by e p d) c r in
-      record {
-        mark-is = m .mark-is;
-        pixels-are =
-            added ∙ ap (λ (q : ℕ). add-rows q ps (begins s) v (p .w) (p .h)) top-is
-            ∙ rows-ext (maximum d) ps (begins s) v u (p .w) (p .h) (λ y x l b. ap (add-pixel (maximum d) _) (ap (left (p .columns)) (m .elements y x l b)));
-        coefs-are = cleared;
-      }
+    pub painted : {top : ℕ} {ps′ : List ℕ} {c′ : List ℤ} → top ≡ maximum d
+        → ps′ ≡ add-rows top ps (begins s) (λ y x. left (p .columns) (at t (y * p .w + x))) (s .columns) (s .rows)
+        → c′ ≡ replicate (p .w * p .h) (pos 0) ++ drop (p .w * p .h) c → Passed e p d s r ps c mark ps′ c′
+    painted top-is added cleared =
+        let v : ℕ → ℕ → ℤ = λ y x. left (p .columns) (at t (y * p .w + x)) in
+        let u = residual (way-by e p d) c r in
+        record {
+          mark-is = m .mark-is;
+          pixels-are =
+              added ∙ ap (λ (q : ℕ). add-rows q ps (begins s) v (s .columns) (s .rows)) top-is
+              ∙ rows-ext (maximum d) ps (begins s) v u (s .columns) (s .rows)
+              (λ y x l b. ap (add-pixel (maximum d) _) (ap (left (p .columns)) (m .elements y x (omega (arith, l, rows-in)) (omega (arith, b, columns-in)))));
+          coefs-are = cleared;
+        }
 
 -- a plan whose rows are WHT4 is that of WHT_WHT
 pub wht-planned : (p : Plan) → Sized p → p .rows ≡ Wht → p ≡ wht-plan (p .shift)
@@ -70,5 +75,7 @@ any-shift a =
     record {
       sized = record { width = refl; height = refl; shift-small = lit≤ tt; row-length = tt; column-length = tt; wht-both = λ t. refl };
       coefs = record { count = a .coefs .count; small = a .coefs .small };
+      columns-in = a .columns-in;
+      rows-in = a .rows-in;
       inside = a .inside;
     }

@@ -78,7 +78,7 @@ module _ (b : Block) (p : Plan) (d : Depth) where
       let rs = residual 𝓦 (b .coefs) in
       λ i. record {
         answer = acceptance (marked-same 𝓦 (quiet e p d s) (b .coefs) r l k i);
-        pixels = rows-ext (maximum d) (b .plane .pixels) (begins (spot (b .plane .view))) (rs r) (rs (p .h)) (p .w) (p .h) (λ y x g f. ap (add-pixel (maximum d) _) (residual-same 𝓦 (quiet e p d s) (b .coefs) r l k y x)) i;
+        pixels = rows-ext (maximum d) (b .plane .pixels) (begins (spot (b .plane .view))) (rs r) (rs (p .h)) (b .plane .view .columns) (b .plane .view .rows) (λ y x g f. ap (add-pixel (maximum d) _) (residual-same 𝓦 (quiet e p d s) (b .coefs) r l k y x)) i;
         coefs = replicate n (pos 0) ++ drop n (b .coefs);
       }
 
@@ -133,8 +133,8 @@ module _ (b : Block) (p : Plan) (d : Depth) where
     live-checks r =
         let t = table (live r) b in
         ap (λ c. then (then c (with-depth (b .depth))) (judged t)) (good .planned) ∙ ap (λ c. then (then c (λ d. accept (p, d))) (judged t)) (good .deep)
-        ∙ (λ j. unless-at (when (bad-rows (live r) (p .h))) 5 (unless-at (when (good .enough j)) 6 (unless-at (when (good .placed .stride j)) 7 (unless-at (when (good .placed .inside j)) 8
-        (unless-at (good .ranged j) 9 (unless-at (stray (live r) p (b .coefs)) 10 (accept (p, d))))))))
+        ∙ (λ j. unless-at (when (bad-rows (live r) (p .h))) 5 (unless-at (when (good .enough j)) 6 (unless-at (when (good .placed .seen j)) 20 (unless-at (when (good .placed .stride j)) 7 (unless-at (when (good .placed .inside j)) 8
+        (unless-at (good .ranged j) 9 (unless-at (stray (live r) p (b .coefs)) 10 (accept (p, d)))))))))
 
     -- a count in the bounds that does not cover is refused as stray, at the first stray's place
     pub stray-at : (r i : ℕ) → 1 ≤ r → r ≤ p .h → stray (live r) p (b .coefs) ≡ some i → outcome (live r) b ≡ outcome-of way (live r) b (refuse 10 i)

@@ -28,7 +28,7 @@ use Rattle.levels.specs.declared.Plan.{Plan}
 use Rattle.levels.proofs.Sizes.{Sided, side-bounds}
 use Rattle.strided.specs.declared.View.{View}
 use Rattle.strided.specs.Planes.{spot, begins, place}
-use Rattle.strided.proofs.Rows.{row-fits, rows-apart}
+use Rattle.strided.proofs.Rows.{columns-in, rows-in, row-fits, rows-apart}
 use Rattle.residual.specs.Blocks.{Way, way, entered, row, middle, column, residual, marked, prescale, shortcut}
 use Rattle.pixels.specs.Adds.{add-pixel, add-rows}
 use Rattle.itx.specs.Calls.{Block, plain, by-shortcut, by-passes, outcome}
@@ -168,22 +168,22 @@ module _ (b : Block) (w h s : ℕ) (d : Depth) (good : Accepted (plain (pos 0)) 
   abbrev v : View
   v = b .plane .view
 
-  pixel-same : (y x : ℕ) → y < h → x < w
-      → let q = getD (add-rows (maximum d) (b .plane .pixels) (begins (spot v)) (residual (way plan-here d) (b .coefs) 1) w y) (place (b .plane) y x) 0 in
+  pixel-same : (y x : ℕ) → y < v .rows → x < v .columns
+      → let q = getD (add-rows (maximum d) (b .plane .pixels) (begins (spot v)) (residual (way plan-here d) (b .coefs) 1) (v .columns) y) (place (b .plane) y x) 0 in
       add-pixel (maximum d) q (shortcut plan-here (at (b .coefs) 0)) ≡ add-pixel (maximum d) q (residual (way plan-here d) (b .coefs) 1 y x)
   unfolding Rattle.residual.specs.Blocks.shortcut
   pixel-same y x k l =
       let rs = residual (way plan-here d) (b .coefs) 1 in
-      let q = getD (add-rows (maximum d) (b .plane .pixels) (begins (spot v)) rs w y) (place (b .plane) y x) 0 in
+      let q = getD (add-rows (maximum d) (b .plane .pixels) (begins (spot v)) rs (v .columns) y) (place (b .plane) y x) 0 in
       let n = length (b .plane .pixels) in
-      let waits = pixel-waits (maximum d) (b .plane .pixels) (begins (spot v)) w h (row-fits n w h v (good .placed)) (rows-apart n w h v (good .placed)) rs y x k l in
+      let waits = pixel-waits (maximum d) (b .plane .pixels) (begins (spot v)) (v .columns) (v .rows) (row-fits n w h v (good .placed)) (rows-apart n w h v (good .placed)) rs y x k l in
       sym (saturates d q (subst (λ (n : ℕ). n ≤ maximum d) (sym waits) (small y x k l)) (round2 (level (prescale w h (at (b .coefs) 0))) s))
-      ∙ ap (add-pixel (maximum d) q) (sym (residual-is w h s (sided .0) (sided .1) d (b .coefs) first-inside alone y x k l))
+      ∙ ap (add-pixel (maximum d) q) (sym (residual-is w h s (sided .0) (sided .1) d (b .coefs) first-inside alone y x (omega (arith, k, rows-in w h v (good .placed .seen) .1)) (omega (arith, l, columns-in w h v (good .placed .seen) .1))))
 
   one-pass : by-shortcut b plan-here d ≡ by-passes b plan-here d (way plan-here d) 1
   one-pass = λ i. record {
     answer = acceptance (sym (unmarked w h s (sided .0) (sided .1) d (b .coefs) first-inside alone) i);
-    pixels = rows-ext (maximum d) (b .plane .pixels) (begins (spot v)) (λ y x. shortcut plan-here (at (b .coefs) 0)) (residual (way plan-here d) (b .coefs) 1) w h pixel-same i;
+    pixels = rows-ext (maximum d) (b .plane .pixels) (begins (spot v)) (λ y x. shortcut plan-here (at (b .coefs) 0)) (residual (way plan-here d) (b .coefs) 1) (v .columns) (v .rows) pixel-same i;
     coefs = cleared (w * h) (b .coefs) area-pos (ltb-false _ _ (good .enough)) alone i;
   }
 

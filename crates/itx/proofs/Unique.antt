@@ -9,7 +9,7 @@ use Rattle.itx_1d.specs.Calls as Passes
 use Rattle.itx.specs.declared.Answer.{Answer}
 use Rattle.itx.specs.declared.Answer.the-variants.{Done, Refused}
 use Rattle.itx.specs.declared.Refusal.{Refusal}
-use Rattle.itx.specs.declared.Refusal.the-variants.{NoSize, NoType, NoDepth, NegativeEob, NoSuchRows, FewCoefficients, BadStride, RowOutside, OutOfRange, Stray}
+use Rattle.itx.specs.declared.Refusal.the-variants.{NoSize, NoType, NoDepth, NegativeEob, NoSuchRows, FewCoefficients, NotVisible, BadStride, RowOutside, OutOfRange, Stray}
 use Rattle.itx.specs.Answers.{number, place, answer-of}
 use Rattle.itx.specs.Calls.{Block, Call, Meets}
 use Rattle.itx.specs.Spec.{SpecMeets}
@@ -24,10 +24,11 @@ refusal n i =
     (cond (eqb n 4) NegativeEob
     (cond (eqb n 5) NoSuchRows
     (cond (eqb n 6) FewCoefficients
+    (cond (eqb n 20) NotVisible
     (cond (eqb n 7) BadStride
     (cond (eqb n 8) RowOutside
     (cond (eqb n 9) (OutOfRange i)
-    (Stray i)))))))))
+    (Stray i))))))))))
 
 refusal-is : (r : Refusal) → refusal (number r) (place r) ≡ r
 unfolding refusal
@@ -37,6 +38,7 @@ refusal-is NoDepth = refl
 refusal-is NegativeEob = refl
 refusal-is NoSuchRows = refl
 refusal-is FewCoefficients = refl
+refusal-is NotVisible = refl
 refusal-is BadStride = refl
 refusal-is RowOutside = refl
 refusal-is (OutOfRange i) = refl
@@ -52,6 +54,7 @@ not-zero NoDepth = refl
 not-zero NegativeEob = refl
 not-zero NoSuchRows = refl
 not-zero FewCoefficients = refl
+not-zero NotVisible = refl
 not-zero BadStride = refl
 not-zero RowOutside = refl
 not-zero (OutOfRange i) = refl

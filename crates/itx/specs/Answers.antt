@@ -22,7 +22,7 @@ use Rattle.itx.specs.Calls.{Block, with-adst}
 use Rattle.itx.specs.declared.Answer.{Answer}
 use Rattle.itx.specs.declared.Answer.the-variants.{Done, Refused}
 use Rattle.itx.specs.declared.Refusal.{Refusal}
-use Rattle.itx.specs.declared.Refusal.the-variants.{NoSize, NoType, NoDepth, NegativeEob, NoSuchRows, FewCoefficients, BadStride, RowOutside, OutOfRange, Stray}
+use Rattle.itx.specs.declared.Refusal.the-variants.{NoSize, NoType, NoDepth, NegativeEob, NoSuchRows, FewCoefficients, NotVisible, BadStride, RowOutside, OutOfRange, Stray}
 use Rattle.itx.specs.declared.Verdict.{Verdict}
 use Rattle.itx.specs.declared.Verdict.the-variants.{Go, At, Stop}
 
@@ -34,6 +34,7 @@ number NoDepth = 3
 number NegativeEob = 4
 number NoSuchRows = 5
 number FewCoefficients = 6
+number NotVisible = 20
 number BadStride = 7
 number RowOutside = 8
 number (OutOfRange i) = 9
@@ -47,6 +48,7 @@ place NoDepth = 0
 place NegativeEob = 0
 place NoSuchRows = 0
 place FewCoefficients = 0
+place NotVisible = 0
 place BadStride = 0
 place RowOutside = 0
 place (OutOfRange i) = i
@@ -100,19 +102,21 @@ block w h type depth coefs plane = record { w = w; h = h; type = type; depth = d
 pub record Ready (p : Plan) (s : Spot) (ps : List ℕ) (c : List ℤ) : Type 0 where
   pub sized : Sized p
   pub coefs : Coefs p c
-  pub inside : spot-outside (length ps) (p .w) (p .h) s ≡ false
+  pub columns-in : s .columns ≤ p .w
+  pub rows-in : s .rows ≤ p .h
+  pub inside : spot-outside (length ps) s ≡ false
 
 -- what they leave: pixels ps and coefficients c become ps′ and c′
-abbrev pub added : Plan → Depth → Spot → List ℕ → (ℕ → ℕ → ℤ) → List ℕ
-added p d s ps v = add-rows (maximum d) ps (begins s) v (p .w) (p .h)
+abbrev pub added : Depth → Spot → List ℕ → (ℕ → ℕ → ℤ) → List ℕ
+added d s ps v = add-rows (maximum d) ps (begins s) v (s .columns) (s .rows)
 
 pub record Passed (e : Engine) (p : Plan) (d : Depth) (s : Spot) (r : ℕ) (ps : List ℕ) (c : List ℤ) (mark : Bool) (ps′ : List ℕ) (c′ : List ℤ) : Type 0 where
   pub mark-is : mark ≡ marked (way-by e p d) c r
-  pub pixels-are : ps′ ≡ added p d s ps (residual (way-by e p d) c r)
+  pub pixels-are : ps′ ≡ added d s ps (residual (way-by e p d) c r)
   pub coefs-are : c′ ≡ replicate (p .w * p .h) (pos 0) ++ drop (p .w * p .h) c
 
 pub record Shortened (p : Plan) (d : Depth) (s : Spot) (ps : List ℕ) (c : List ℤ) (ps′ : List ℕ) (c′ : List ℤ) : Type 0 where
-  pub pixels-are : ps′ ≡ added p d s ps (λ y x. shortcut p (at c 0))
+  pub pixels-are : ps′ ≡ added d s ps (λ y x. shortcut p (at c 0))
   pub coefs-are : c′ ≡ set c 0 (pos 0)
 
 -- ---- the two engines

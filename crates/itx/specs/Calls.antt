@@ -19,7 +19,7 @@ use Rattle.levels.specs.declared.Plan.{Plan}
 use Rattle.levels.specs.Plans.{plan}
 use Rattle.coefs.specs.Coefs.{in-dead-row}
 use Rattle.pixels.specs.Adds.{add-rows}
-use Rattle.strided.specs.Planes.{Plane, spot, begins, bad-stride, spot-outside}
+use Rattle.strided.specs.Planes.{Plane, spot, begins, bad-view, bad-stride, spot-outside}
 use Rattle.strided.specs.declared.View.{View}
 use Rattle.residual.specs.Blocks.{Way, residual, marked, way, shortcut}
 
@@ -68,8 +68,9 @@ count-line count = (6, λ a. when (ltb count (a .0 .w * a .0 .h)))
 
 abbrev pub plane-lines : ℕ → View → List (Line (Plan × Depth))
 plane-lines size v =
-    (7, λ a. when (bad-stride (a .0 .w) (v .stride .0)))
-    ∷ (8, λ a. when (spot-outside size (a .0 .w) (a .0 .h) (spot v)))
+    (20, λ a. when (bad-view (a .0 .w) (a .0 .h) v))
+    ∷ (7, λ a. when (bad-stride (a .0 .w) (v .stride .0)))
+    ∷ (8, λ a. when (spot-outside size (spot v)))
     ∷ []
 
 abbrev pub range-line : List ℤ → Line (Plan × Depth)
@@ -86,7 +87,7 @@ abbrev pub with-adst : Plan → Bool
 with-adst p = is-adst (p .rows) || is-adst (p .columns)
 
 module _ (call : Call) (b : Block) where
-  -- numbers 4 to 10
+  -- numbers 4 to 10, with 20 "right after 6" (E5)
   abbrev pub table : List (Line (Plan × Depth))
   table =
       let c = b .coefs in
@@ -122,14 +123,14 @@ abbrev pub live-rows : Call → Plan → ℕ
 live-rows (plain eob) p = p .h
 live-rows (live r) p = r
 
--- step 6: v y x is added to the pixel of row y, column x
-abbrev pub painted : ℕ → Plane → ℕ → ℕ → (ℕ → ℕ → ℤ) → List ℕ
-painted top a w h v = add-rows top (a .pixels) (begins (spot (a .view))) v w h
+-- step 6, and "only visible pixels are read and written" (E5): v y x is added to the visible pixel of row y, column x
+abbrev pub painted : ℕ → Plane → (ℕ → ℕ → ℤ) → List ℕ
+painted top a v = add-rows top (a .pixels) (begins (spot (a .view))) v (a .view .columns) (a .view .rows)
 
 module _ (b : Block) (p : Plan) (d : Depth) where
   -- what is added, with the mark and the coefficients that are left
   abbrev pub done : Bool → (ℕ → ℕ → ℤ) → List ℤ → Outcome
-  done mark v coefs = record { answer = acceptance mark; pixels = painted (maximum d) (b .plane) (p .w) (p .h) v; coefs = coefs }
+  done mark v coefs = record { answer = acceptance mark; pixels = painted (maximum d) (b .plane) v; coefs = coefs }
 
   -- "Only the first coefficient becomes 0. .. the mark is no."
   abbrev pub by-shortcut : Outcome

@@ -17,7 +17,7 @@ use Rattle.strided.specs.Planes.{Spotted, place}
 use Rattle.residual.specs.Blocks.{way}
 use Rattle.itx.specs.Calls.{Block, Call, plain, live, bad-eob, bad-rows, out-of-range, stray, Outcome, short, by-passes}
 
--- none of the numbers 1 to 10 holds
+-- none of the numbers 1 to 10 and 20 holds
 pub record Accepted (call : Call) (b : Block) (p : Plan) (d : Depth) : Type 0 where
   pub planned : plan (b .w) (b .h) (b .type) ≡ accept p
   pub deep : depth (b .depth) ≡ accept d
@@ -38,9 +38,9 @@ module _ (b : Block) (p : Plan) where
     abbrev pub whole : Outcome
     whole = by-passes b p d (way p d) (p .h)
 
-    -- no pixel of the block exceeds the maximum
+    -- no visible pixel exceeds the maximum
     abbrev pub Small : Type 0
-    Small = (y x : ℕ) → y < p .h → x < p .w → getD (b .plane .pixels) (place (b .plane) y x) 0 ≤ maximum d
+    Small = (y x : ℕ) → y < b .plane .view .rows → x < b .plane .view .columns → getD (b .plane .pixels) (place (b .plane) y x) 0 ≤ maximum d
 
 -- what may be announced
 pub data Announced (b : Block) (p : Plan) (d : Depth) : Call → Type 0 where

@@ -39,7 +39,7 @@ passed kind n c = cond (is-wht kind) (Passes.unranged c 1) (Passes.ranged kind n
 -- a plain call at depth 8, with coefficients c, 0, 0, .., over the block's own pixels and no others, all 100
 abbrev pub added : ℕ → ℕ → ℕ → ℕ → ℕ → Outcome
 added w h type c eob =
-    outcome (plain (pos eob)) (block w h type 8 (pos c ∷ zeros (w * h - 1)) (lent (each (w * h) 100) (whole w)))
+    outcome (plain (pos eob)) (block w h type 8 (pos c ∷ zeros (w * h - 1)) (lent (each (w * h) 100) (whole w h)))
 
 -- what comes of a case, by the definitions that the contracts cite
 abbrev pub computed : Case → Result

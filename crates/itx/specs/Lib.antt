@@ -3,5 +3,6 @@ pub mod Calls
 pub mod Av1
 pub mod Answers
 pub mod Demands
+pub mod Visible
 pub mod Known
 pub mod Spec

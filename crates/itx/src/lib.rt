@@ -35,7 +35,7 @@ use strided::Spot;
 use strided::SpotCheck;
 use strided::View;
 
-// Document 01, "Numbers of refusal", 1 to 10.
+// Document 01, "Numbers of refusal", 1 to 10, and 20 of request E5, in the order of the checks.
 pub enum Refusal {
     NoSize,
     NoType,
@@ -43,6 +43,7 @@ pub enum Refusal {
     NegativeEob,
     NoSuchRows,
     FewCoefficients,
+    NotVisible,
     BadStride,
     RowOutside,
     OutOfRange(usize),
@@ -75,6 +76,7 @@ fn number_of(refusal: Refusal) -> u8
         Refusal::NegativeEob => 4,
         Refusal::NoSuchRows => 5,
         Refusal::FewCoefficients => 6,
+        Refusal::NotVisible => 20,
         Refusal::BadStride => 7,
         Refusal::RowOutside => 8,
         Refusal::OutOfRange(_) => 9,
@@ -102,6 +104,7 @@ fn place_of(refusal: Refusal) -> usize
         Refusal::NegativeEob => 0,
         Refusal::NoSuchRows => 0,
         Refusal::FewCoefficients => 0,
+        Refusal::NotVisible => 0,
         Refusal::BadStride => 0,
         Refusal::RowOutside => 0,
         Refusal::OutOfRange(i) => i,
@@ -196,7 +199,7 @@ fn check_count(before: Verdict, count: usize) -> Verdict
     before
 }
 
-// Numbers 7 and 8.
+// Numbers 20, 7 and 8.
 fn check_plane(before: Verdict, size: usize, view: View) -> Verdict
     requires { ⌜ Asked before ⌝ }
     ensures { λ r. ⌜ (verdict-of r ≡ then (verdict-of before) (judged (Calls.plane-lines size view))) × Lies view r ⌝ }
@@ -209,6 +212,7 @@ fn check_plane(before: Verdict, size: usize, view: View) -> Verdict
     let found = view.spot(size, w, h);
     match found {
         SpotCheck::Found(spot) => Verdict::At(plan, depth, spot),
+        SpotCheck::NotVisible => Verdict::Stop(Refusal::NotVisible),
         SpotCheck::BadStride => Verdict::Stop(Refusal::BadStride),
         SpotCheck::RowOutside => Verdict::Stop(Refusal::RowOutside),
     }
@@ -257,7 +261,7 @@ fn by_wht(dst: &mut [u16], spot: Spot, coeff: &mut [i32], depth: Depth, r: usize
     let top = depth.maximum();
     let mut t = [0i32; 16];
     resolve_wht(&mut t, &*coeff, r);
-    add_block(&mut *dst, spot, &t, 4, Kind::Wht, 4, 4, top);
+    add_block(&mut *dst, spot, &t, 4, Kind::Wht, top);
     clear(&mut *coeff, 16);
 }
 
@@ -287,7 +291,7 @@ fn by_passes(
     let top = depth.maximum();
     let mut t = [0i32; 1024];
     let mark = resolve(engine, &mut t, plan, depth, &*coeff, r);
-    add_block(&mut *dst, spot, &t, w, columns, w, h, top);
+    add_block(&mut *dst, spot, &t, w, columns, top);
     clear(&mut *coeff, w * h);
     mark
 }
@@ -310,7 +314,7 @@ fn is_short(plan: Plan, eob: i32) -> bool
     true
 }
 
-// Numbers 1 to 9.
+// Numbers 1 to 9 and 20.
 fn check_plain(
     size: usize,
     view: View,
@@ -330,7 +334,7 @@ fn check_plain(
     check_range(placed, coeff)
 }
 
-// Numbers 1 to 3 and 5 to 10.
+// Numbers 1 to 3, 5 to 10 and 20.
 fn check_live(
     size: usize,
     view: View,
@@ -351,17 +355,15 @@ fn check_live(
     check_stray(ranged, coeff, r)
 }
 
-// The shortcut: every pixel gets the same number.
+// The shortcut: every visible pixel gets the same number.
 fn by_shortcut(dst: &mut [u16], spot: Spot, coeff: &mut [i32], plan: Plan, depth: Depth)
     requires { ⌜ Ready plan spot (now dst) (now coeff) ⌝ }
     ensures { λ _. ⌜ Shortened plan depth spot (now (dst .entry)) (now (coeff .entry)) (now (dst .exit)) (now (coeff .exit)) ⌝ }
 {
-    let w = plan.w;
-    let h = plan.h;
     let top = depth.maximum();
     let first = coeff[0];
     let v = shortcut(plan, first);
-    shift_block(&mut *dst, spot, v, w, h, top);
+    shift_block(&mut *dst, spot, v, top);
     coeff[0] = 0;
 }
 

@@ -4,10 +4,13 @@ use itx::Answer;
 use strided::ByteStride;
 use strided::View;
 
-fn seen(offset: u32, stride: i32) -> View {
+// A plane in which all of the block is visible.
+fn whole(offset: u32, stride: i32, w: usize, h: usize) -> View {
     View {
         offset,
         stride: ByteStride(stride),
+        columns: w,
+        rows: h,
     }
 }
 
@@ -68,7 +71,7 @@ fn plain(
     depth: usize,
 ) {
     asked(&*dst, offset, stride, &*c, eob, w, h, txtp, depth);
-    let view = seen(offset, stride);
+    let view = whole(offset, stride, w, h);
     let answer = itx::inv_txfm_add(&mut *dst, view, &mut *c, eob, w, h, txtp, depth);
     shown(answer, &*dst, &*c);
 }
@@ -85,7 +88,7 @@ fn live(
     depth: usize,
 ) {
     asked_live(&*dst, offset, stride, &*c, r, w, h, txtp, depth);
-    let view = seen(offset, stride);
+    let view = whole(offset, stride, w, h);
     let answer = itx::inv_txfm_add_live(&mut *dst, view, &mut *c, r, w, h, txtp, depth);
     shown(answer, &*dst, &*c);
 }
@@ -97,7 +100,7 @@ fn spec(dst: &mut [u16], c: &mut [i32], eob: i32, w: usize, h: usize, txtp: usiz
     let stride = (w * 2) as i32;
     show::spec();
     asked(&*dst, 0, stride, &*c, eob, w, h, txtp, depth);
-    let view = seen(0, stride);
+    let view = whole(0, stride, w, h);
     let answer = itx::spec_inv_txfm_add(&mut *dst, view, &mut *c, eob, w, h, txtp, depth);
     shown(answer, &*dst, &*c);
 }
@@ -116,7 +119,7 @@ fn spec_live(
     let stride = (w * 2) as i32;
     show::spec();
     asked_live(&*dst, 0, stride, &*c, r, w, h, txtp, depth);
-    let view = seen(0, stride);
+    let view = whole(0, stride, w, h);
     let answer = itx::spec_inv_txfm_add_live(&mut *dst, view, &mut *c, r, w, h, txtp, depth);
     shown(answer, &*dst, &*c);
 }

@@ -21,6 +21,7 @@ use Rattle.whole.proofs.Sizes.{abs-neg}
 use Rattle.bitdepth.specs.declared.Depth.{Depth}
 use Rattle.bitdepth.specs.Depths.{depth, row-range, maximum}
 use Rattle.strided.specs.Planes.{Plane, Spotted, place}
+use Rattle.strided.proofs.Rows.{columns-in, rows-in}
 use Rattle.residual.specs.Blocks.{way, entered, row, middle, column, residual, shortcut}
 use Rattle.residual.specs.Inner.{wht-plan}
 use Rattle.pixels.specs.Adds.{add-pixel}
@@ -71,13 +72,13 @@ module _ (r : List ℤ) (e : ℕ) (b : Block) (d : Depth) (a : Accepted (plain (
       ∙ (λ i. acceptance (cond (never-short e i) false (any-none 4 (λ y. row (way (wht-plan 0) d) (b .coefs) y .mark) (λ y l. refl) i || any-none 4 (λ x. column (way (wht-plan 0) d) (b .coefs) 4 x .mark) (λ x l. refl) i)))
 
   -- a prediction p with 0 ≤ p + r ≤ maximum becomes p + r
-  pub restored : (y x : ℕ) → y < 4 → x < 4 → let p = pos (getD (b .plane .pixels) (place (b .plane) y x) 0) in let v = at r (y * 4 + x) in
+  pub restored : (y x : ℕ) → y < b .plane .view .rows → x < b .plane .view .columns → let p = pos (getD (b .plane .pixels) (place (b .plane) y x) 0) in let v = at r (y * 4 + x) in
       outside (p +ℤ v) (pos 0) (pos (maximum d)) ≡ false → pos (getD (outcome (plain (pos e)) b .pixels) (place (b .plane) y x) 0) ≡ p +ℤ v
   unfolding outside
   restored y x k l f =
       let q = getD (b .plane .pixels) (place (b .plane) y x) 0 in
       let v = at r (y * 4 + x) in
-      ap pos (pixel-rule (plain (pos e)) b (wht-plan 0) d a y x k l ∙ ap (add-pixel (maximum d) q) (adds y x k l) ∙ ap natAbs (clip-inside (pos q +ℤ v) (pos 0) (pos (maximum d)) f))
+      ap pos (pixel-rule (plain (pos e)) b (wht-plan 0) d a y x k l ∙ ap (add-pixel (maximum d) q) (adds y x (omega (arith, k, rows-in 4 4 (b .plane .view) (a .placed .seen) .1)) (omega (arith, l, columns-in 4 4 (b .plane .view) (a .placed .seen) .1))) ∙ ap natAbs (clip-inside (pos q +ℤ v) (pos 0) (pos (maximum d)) f))
       ∙ not-negative (pos q +ℤ v) (or-false _ _ f .0)
 
 -- ---- what the writer left, sent on
@@ -168,6 +169,6 @@ module _ (r c c′ : List ℤ) (n : ℕ) (w : Meets (written r c n) Done c′) (
     sent-done = unmarked r e sent d sent-accepted held
 
     -- "Stamps and signatures must come back exactly."
-    pub comes-exactly : (y x : ℕ) → y < 4 → x < 4 → let p = pos (getD (plane .pixels) (place plane y x) 0) in let v = at r (y * 4 + x) in
+    pub comes-exactly : (y x : ℕ) → y < plane .view .rows → x < plane .view .columns → let p = pos (getD (plane .pixels) (place plane y x) 0) in let v = at r (y * 4 + x) in
         outside (p +ℤ v) (pos 0) (pos (maximum d)) ≡ false → pos (getD (outcome (plain (pos e)) sent .pixels) (place plane y x) 0) ≡ p +ℤ v
     comes-exactly = restored r e sent d sent-accepted held

@@ -35,6 +35,8 @@ fn add(pixels: &mut [u16], coeff: &mut [i32], eob: i32, depth: usize) {
     let view = View {
         offset: 0,
         stride: ByteStride(8),
+        columns: 4,
+        rows: 4,
     };
     let answer = itx::inv_txfm_add(
         &mut *pixels,

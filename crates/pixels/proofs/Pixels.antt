@@ -35,7 +35,8 @@ module _ (top : ℕ) (ps : List ℕ) (from : ℕ) where
       (λ g. getD-set-other rest (from + k) (from + x) (new k) 0 (λ e. omega arith) ∙ row-own v k x g (omega arith))
 
   -- one more pixel, which is still what it was: the step of every loop that adds a row
-  pub row-more : (v : ℕ → ℤ) (k q : ℕ) {now : List ℕ} {z : ℤ} → now ≡ add-row top ps from v k → z ≡ v k → q ≡ add-pixel top (getD now (from + k) 0) z → set now (from + k) q ≡ add-row top ps from v (k + 1)
+  pub row-more : (v : ℕ → ℤ) (k q : ℕ) {now : List ℕ} {z : ℤ} → now ≡ add-row top ps from v k → z ≡ v k
+      → q ≡ add-pixel top (getD now (from + k) 0) z → set now (from + k) q ≡ add-row top ps from v (k + 1)
   unfolding add-row
   row-more v k q {now} {z} e g f =
       let was = ap (λ (s : List ℕ). getD s (from + k) 0) e ∙ row-other v k (from + k) (λ x l h. omega arith) in
@@ -68,7 +69,8 @@ module _ (top : ℕ) (ps : List ℕ) (from : ℕ → ℕ) where
   rows-more v n k e g f = f ∙ (λ i. add-row top (e i) (g i) (v k) n) ∙ ap (add-rows top ps from v n) (sym (add-one k))
 
   -- rows that lie in the slice and do not meet
-  module _ (n h : ℕ) (fits : (y : ℕ) → y < h → from y + n ≤ length ps) (apart : (y u x t : ℕ) → y < u → u < h → x < n → t < n → from y + x ≢ from u + t) (v : ℕ → ℕ → ℤ) where
+  module _ (n h : ℕ) (fits : (y : ℕ) → y < h → from y + n ≤ length ps)
+      (apart : (y u x t : ℕ) → y < u → u < h → x < n → t < n → from y + x ≢ from u + t) (v : ℕ → ℕ → ℤ) where
     -- a row's pixels wait for their row
     pub pixel-waits : (y x : ℕ) → y < h → x < n → getD (add-rows top ps from v n y) (from y + x) 0 ≡ getD ps (from y + x) 0
     pixel-waits y x g m = pixel-kept v n y (from y + x) (λ u t l k e. apart u y t x l g k m (sym e))

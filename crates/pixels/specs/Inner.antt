@@ -25,14 +25,15 @@ pub record RowAdds (from start w : ℕ) (ps : List ℕ) (t : List ℤ) : Type 0 
   pub pixels : from + w ≤ length ps
   pub numbers : Small start w t
 
-pub record Adding (spot : Spot) (step w h : ℕ) (ps : List ℕ) (t : List ℤ) : Type 0 where
-  pub height : h ≤ 32
+-- a block whose visible pixels get their numbers
+pub record Adding (spot : Spot) (step : ℕ) (ps : List ℕ) (t : List ℤ) : Type 0 where
+  pub height : spot .rows ≤ 32
   pub step-small : step ≤ 32
-  pub inside : spot-outside (length ps) w h spot ≡ false
-  pub numbers : (y : ℕ) → y < h → Small (y * step) w t
+  pub inside : spot-outside (length ps) spot ≡ false
+  pub numbers : (y : ℕ) → y < spot .rows → Small (y * step) (spot .columns) t
 
--- a block to every pixel of which v is added
-pub record Shifting (spot : Spot) (v : ℤ) (w h : ℕ) (ps : List ℕ) : Type 0 where
-  pub height : h ≤ 32
-  pub inside : spot-outside (length ps) w h spot ≡ false
+-- a block to every visible pixel of which v is added
+pub record Shifting (spot : Spot) (v : ℤ) (ps : List ℕ) : Type 0 where
+  pub height : spot .rows ≤ 32
+  pub inside : spot-outside (length ps) spot ≡ false
   pub small : natAbs v ≤ 16777216

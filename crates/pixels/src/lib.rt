@@ -90,37 +90,30 @@ fn shift_row(ps: &mut [u16], from: usize, v: i32, w: usize, top: u16)
     }
 }
 
-// v added to every pixel of the block.
-pub fn shift_block(ps: &mut [u16], spot: Spot, v: i32, w: usize, h: usize, top: u16)
-    requires { ⌜ Inner.Shifting spot v w h (now ps) ⌝ }
-    ensures { λ _. ⌜ now (ps .exit) ≡ add-rows top (now (ps .entry)) (begins spot) (λ y x. v) w h ⌝ }
+// v added to every visible pixel of the block.
+pub fn shift_block(ps: &mut [u16], spot: Spot, v: i32, top: u16)
+    requires { ⌜ Inner.Shifting spot v (now ps) ⌝ }
+    ensures { λ _. ⌜ now (ps .exit) ≡ add-rows top (now (ps .entry)) (begins spot) (λ y x. v) (spot .columns) (spot .rows) ⌝ }
 {
     let offset = spot.offset;
     let stride = spot.stride;
-    for y in 0..h {
+    let n = spot.columns;
+    for y in 0..spot.rows {
         let start = stride.start(offset, y as u16);
-        shift_row(&mut *ps, start as usize, v, w, top);
+        shift_row(&mut *ps, start as usize, v, n, top);
     }
 }
 
 // Row y's numbers stand in t from y·step on.
-pub fn add_block(
-    ps: &mut [u16],
-    spot: Spot,
-    t: &[i32],
-    step: usize,
-    columns: Kind,
-    w: usize,
-    h: usize,
-    top: u16,
-)
-    requires { ⌜ Inner.Adding spot step w h (now ps) (now t) ⌝ }
-    ensures { λ _. ⌜ now (ps .exit) ≡ add-rows top (now (ps .entry)) (begins spot) (λ y x. Inner.left columns (at (now (t .entry)) (y * step + x))) w h ⌝ }
+pub fn add_block(ps: &mut [u16], spot: Spot, t: &[i32], step: usize, columns: Kind, top: u16)
+    requires { ⌜ Inner.Adding spot step (now ps) (now t) ⌝ }
+    ensures { λ _. ⌜ now (ps .exit) ≡ add-rows top (now (ps .entry)) (begins spot) (λ y x. Inner.left columns (at (now (t .entry)) (y * step + x))) (spot .columns) (spot .rows) ⌝ }
 {
     let offset = spot.offset;
     let stride = spot.stride;
-    for y in 0..h {
+    let n = spot.columns;
+    for y in 0..spot.rows {
         let from = stride.start(offset, y as u16);
-        add_row(&mut *ps, from as usize, t, y * step, columns, w, top);
+        add_row(&mut *ps, from as usize, t, y * step, columns, n, top);
     }
 }

@@ -17,7 +17,7 @@ use Rattle.levels.specs.declared.Plan.{Plan}
 use Rattle.levels.proofs.Types.{by-types}
 use Rattle.levels.specs.Plans.{among, shift-0, shift-1, shift-2, shift-of, kinds-of, with-kinds, with-shift, plan}
 use Rattle.levels.proofs.Sizes.{side-bounds, plan-sided}
-use Rattle.strided.specs.Planes.{bad-stride, row-outside}
+use Rattle.strided.specs.Planes.{bad-view, bad-stride, row-outside}
 use Rattle.itx_1d.specs.Calls.{Answer}
 use Rattle.itx.specs.Calls.{Block, Call, plain, live, bad-eob, bad-rows, out-of-range, stray, table, checked, verdict, spec-verdict, with-adst, short, outcome-of, by-shortcut, by-passes, live-rows, outcome, Meets}
 use Rattle.itx.specs.Av1.{av1-way}
@@ -63,10 +63,11 @@ module _ (call : Call) (b : Block) where
       small-when (bad-eob call) 4 _
       (small-when (bad-rows call (p .h)) 5 _
       (small-when (ltb (length c) n) 6 _
+      (small-when (bad-view (p .w) (p .h) (b .plane .view)) 20 _
       (small-when (bad-stride (p .w) (b .plane .view .stride .0)) 7 _
-      (small-when (row-outside (p .w) (p .h) (b .plane)) 8 _
+      (small-when (row-outside (b .plane)) 8 _
       (small-at (out-of-range (p, d) c) 9 _ (λ i e. omega (arith, first-below n _ i e))
-      (small-at (stray call p c) 10 (accept (p, d)) (stray-below call p c l) tt))))))
+      (small-at (stray call p c) 10 (accept (p, d)) (stray-below call p c l) tt)))))))
 
   small-checked : (k : Check Plan) → Small k → ((p : Plan) → k ≡ accept p → p .w * p .h ≤ 1024) → Small (checked call b k)
   small-checked (refuse n i) s l = s

@@ -13,8 +13,8 @@ abbrev pub packed : Answer → ℕ
 packed a = a .number + 256 * cond (a .mark) 1 0 + 65536 * a .place
 
 -- where a block lies, by C's numbers
-abbrev pub view : ℕ → ℤ → View
-view offset stride = record { offset = offset; stride = record { 0 = stride } }
+abbrev pub view : ℕ → ℤ → ℕ → ℕ → View
+view offset stride columns rows = record { offset = offset; stride = record { 0 = stride }; columns = columns; rows = rows }
 
 -- what an exported pass answers and leaves
 pub record Packs (o : Outcome) (r : ℕ) (c : List ℤ) : Type 0 where

@@ -203,6 +203,8 @@ pub extern "C" fn sgrifomel_inv_txfm_add(
     dst: &mut [u16],
     offset: u32,
     stride: i32,
+    columns: usize,
+    rows: usize,
     coeff: &mut [i32],
     eob: i32,
     w: usize,
@@ -210,11 +212,13 @@ pub extern "C" fn sgrifomel_inv_txfm_add(
     txtp: usize,
     depth: usize,
 ) -> u64
-    ensures { λ r. ⌜ PacksBlock (Blocks.outcome (Blocks.plain eob) (block w h txtp depth (now (coeff .entry)) (lent (now (dst .entry)) (view offset stride)))) r (now (dst .exit)) (now (coeff .exit)) ⌝ }
+    ensures { λ r. ⌜ PacksBlock (Blocks.outcome (Blocks.plain eob) (block w h txtp depth (now (coeff .entry)) (lent (now (dst .entry)) (view offset stride columns rows)))) r (now (dst .exit)) (now (coeff .exit)) ⌝ }
 {
     let view = View {
         offset,
         stride: ByteStride(stride),
+        columns,
+        rows,
     };
     pack_answer(itx::inv_txfm_add(dst, view, coeff, eob, w, h, txtp, depth))
 }
@@ -224,6 +228,8 @@ pub extern "C" fn sgrifomel_inv_txfm_add_live(
     dst: &mut [u16],
     offset: u32,
     stride: i32,
+    columns: usize,
+    rows: usize,
     coeff: &mut [i32],
     r: usize,
     w: usize,
@@ -231,11 +237,13 @@ pub extern "C" fn sgrifomel_inv_txfm_add_live(
     txtp: usize,
     depth: usize,
 ) -> u64
-    ensures { λ a. ⌜ PacksBlock (Blocks.outcome (Blocks.live r) (block w h txtp depth (now (coeff .entry)) (lent (now (dst .entry)) (view offset stride)))) a (now (dst .exit)) (now (coeff .exit)) ⌝ }
+    ensures { λ a. ⌜ PacksBlock (Blocks.outcome (Blocks.live r) (block w h txtp depth (now (coeff .entry)) (lent (now (dst .entry)) (view offset stride columns rows)))) a (now (dst .exit)) (now (coeff .exit)) ⌝ }
 {
     let view = View {
         offset,
         stride: ByteStride(stride),
+        columns,
+        rows,
     };
     pack_answer(itx::inv_txfm_add_live(dst, view, coeff, r, w, h, txtp, depth))
 }
@@ -245,6 +253,8 @@ pub extern "C" fn sgrifomel_spec_inv_txfm_add(
     dst: &mut [u16],
     offset: u32,
     stride: i32,
+    columns: usize,
+    rows: usize,
     coeff: &mut [i32],
     eob: i32,
     w: usize,
@@ -252,11 +262,13 @@ pub extern "C" fn sgrifomel_spec_inv_txfm_add(
     txtp: usize,
     depth: usize,
 ) -> u64
-    ensures { λ r. ⌜ PacksBlock (spec-outcome (Blocks.plain eob) (block w h txtp depth (now (coeff .entry)) (lent (now (dst .entry)) (view offset stride)))) r (now (dst .exit)) (now (coeff .exit)) ⌝ }
+    ensures { λ r. ⌜ PacksBlock (spec-outcome (Blocks.plain eob) (block w h txtp depth (now (coeff .entry)) (lent (now (dst .entry)) (view offset stride columns rows)))) r (now (dst .exit)) (now (coeff .exit)) ⌝ }
 {
     let view = View {
         offset,
         stride: ByteStride(stride),
+        columns,
+        rows,
     };
     pack_answer(itx::spec_inv_txfm_add(dst, view, coeff, eob, w, h, txtp, depth))
 }
@@ -266,6 +278,8 @@ pub extern "C" fn sgrifomel_spec_inv_txfm_add_live(
     dst: &mut [u16],
     offset: u32,
     stride: i32,
+    columns: usize,
+    rows: usize,
     coeff: &mut [i32],
     r: usize,
     w: usize,
@@ -273,11 +287,13 @@ pub extern "C" fn sgrifomel_spec_inv_txfm_add_live(
     txtp: usize,
     depth: usize,
 ) -> u64
-    ensures { λ a. ⌜ PacksBlock (spec-outcome (Blocks.live r) (block w h txtp depth (now (coeff .entry)) (lent (now (dst .entry)) (view offset stride)))) a (now (dst .exit)) (now (coeff .exit)) ⌝ }
+    ensures { λ a. ⌜ PacksBlock (spec-outcome (Blocks.live r) (block w h txtp depth (now (coeff .entry)) (lent (now (dst .entry)) (view offset stride columns rows)))) a (now (dst .exit)) (now (coeff .exit)) ⌝ }
 {
     let view = View {
         offset,
         stride: ByteStride(stride),
+        columns,
+        rows,
     };
     pack_answer(itx::spec_inv_txfm_add_live(dst, view, coeff, r, w, h, txtp, depth))
 }

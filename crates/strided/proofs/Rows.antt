@@ -19,11 +19,10 @@ use Rattle.whole.proofs.Clips.{or-false}
 use Rattle.whole.proofs.Counts.{any-none, any-found, none-of-any}
 use Rattle.whole.proofs.Parts.{pp, nn, Rep, abs-parts, rep-self, rep-add, rep-mul}
 use Rattle.levels.specs.Plans.{shift-of}
-use Rattle.levels.proofs.Sizes.{shift-sided, side-bounds}
 use Rattle.strided.specs.declared.Part.{Part}
 use Rattle.strided.specs.declared.Spot.{Spot}
 use Rattle.strided.specs.declared.View.{View}
-use Rattle.strided.specs.Planes.{in-pixels, starts, within, rows-outside, spot, begins, spot-outside, spotted, Spotted, Plane, place, accepted, part-when, has-row, IsPart}
+use Rattle.strided.specs.Planes.{in-pixels, starts, within, rows-outside, not-in, bad-view, spot, begins, spot-outside, spotted, Spotted, Plane, place, accepted, part-when, has-row, IsPart}
 
 and-true : (s t : Bool) → s && t ≡ true → (s ≡ true) × (t ≡ true)
 and-true true t e = (refl, e)
@@ -106,30 +105,45 @@ apart-by o w y u (negsuc k) l b x t h g m n e =
 
 -- ---- a view in a slice
 
--- where a row of a spot starts, and that it lies in the slice
-pub row-here : (size w h : ℕ) (s : Spot) → spot-outside size w h s ≡ false → (y : ℕ) → y < h
-    → (nn (starts (s .offset) (s .stride .0) y) ≡ 0) × (begins s y + w ≤ size)
-row-here size w h s e y l = row-within size (s .offset) (s .stride .0) w h e y l
+is-in : (n k : ℕ) → not-in n k ≡ false → (1 ≤ k) × (k ≤ n)
+is-in n k e = let q = or-false (ltb k 1) (ltb n k) e in (ltb-false k 1 (q .0), ltb-false n k (q .1))
+
+-- what number 20 leaves
+module _ (w h : ℕ) (v : View) (e : bad-view w h v ≡ false) where
+  pub columns-in : (1 ≤ v .columns) × (v .columns ≤ w)
+  columns-in = is-in w (v .columns) (or-false (not-in w (v .columns)) (not-in h (v .rows)) e .0)
+
+  pub rows-in : (1 ≤ v .rows) × (v .rows ≤ h)
+  rows-in = is-in h (v .rows) (or-false (not-in w (v .columns)) (not-in h (v .rows)) e .1)
+
+  pub rows-most : (n : ℕ) → h ≤ n → v .rows ≤ n
+  rows-most n l = omega (arith, rows-in .1)
+
+-- where a visible row starts, and that it lies in the slice
+pub row-here : (size : ℕ) (s : Spot) → spot-outside size s ≡ false → (y : ℕ) → y < s .rows
+    → (nn (starts (s .offset) (s .stride .0) y) ≡ 0) × (begins s y + s .columns ≤ size)
+row-here size s e y l = row-within size (s .offset) (s .stride .0) (s .columns) (s .rows) e y l
 
 pub spotted-by : (size w h : ℕ) (v : View) (s : Spot) → spotted size w h v ≡ accept s → Spotted size w h v × (s ≡ spot v)
 spotted-by size w h v s e =
-    let e7 = open-unless _ 7 _ s e in
+    let e20 = open-unless _ 20 _ s e in
+    let e7 = open-unless _ 7 _ s (e20 .1) in
     let e8 = open-unless _ 8 _ s (e7 .1) in
-    (record { stride = e7 .0; inside = e8 .0 }, sym (same-accept (spot v) s (e8 .1)))
+    (record { seen = e20 .0; stride = e7 .0; inside = e8 .0 }, sym (same-accept (spot v) s (e8 .1)))
 
 module _ (size w h : ℕ) (v : View) (k : Spotted size w h v) where
   pub spotting : spotted size w h v ≡ accept (spot v)
-  spotting = λ i. unless (k .stride i) 7 (unless (k .inside i) 8 (accept (spot v)))
+  spotting = λ i. unless (k .seen i) 20 (unless (k .stride i) 7 (unless (k .inside i) 8 (accept (spot v))))
 
-  pub row-fits : (y : ℕ) → y < h → begins (spot v) y + w ≤ size
-  row-fits y l = row-here size w h (spot v) (k .inside) y l .1
+  pub row-fits : (y : ℕ) → y < v .rows → begins (spot v) y + v .columns ≤ size
+  row-fits y l = row-here size (spot v) (k .inside) y l .1
 
-  pub rows-apart : (y u x t : ℕ) → y < u → u < h → x < w → t < w → begins (spot v) y + x ≢ begins (spot v) u + t
+  pub rows-apart : (y u x t : ℕ) → y < u → u < v .rows → x < v .columns → t < v .columns → begins (spot v) y + x ≢ begins (spot v) u + t
   rows-apart y u x t l g m n e =
       let s = in-pixels (v .stride .0) in
       let wide : w ≤ natAbs s = ltb-false _ _ (or-false (eqb (natAbs (v .stride .0) % 2) 1) (ltb (natAbs s) w) (k .stride) .1) in
-      let here = row-here size w h (spot v) (k .inside) in
-      apart-by (v .offset) w y u s wide l x t m n (here y (omega arith) .0) (here u g .0) e
+      let here = row-here size (spot v) (k .inside) in
+      apart-by (v .offset) (v .columns) y u s (omega (arith, wide, columns-in w h v (k .seen) .1)) l x t m n (here y (omega arith) .0) (here u g .0) e
 
 -- ---- the row lookup
 
@@ -148,7 +162,7 @@ module _ (a : Plane) (w h y : ℕ) where
   has-it = has-row size v w h y
 
   abbrev found : Bool → Part
-  found t = part-when t v w y
+  found t = part-when t v y
 
   abbrev handed : List ℕ
   handed = take (found has-it .size) (drop (found has-it .from) (a .pixels))
@@ -159,29 +173,36 @@ module _ (a : Plane) (w h y : ℕ) where
   pub empty : has-it ≡ false → handed ≡ []
   empty e = by-test e
 
-  -- none of 1, 7 and 8 holds, and y is below h
+  -- none of 1, 20, 7 and 8 holds, and the row is visible
   pub record Has : Type 0 where
-    pub wide : (4 ≤ w) × (w ≤ 32)
+    pub sized : accepted (shift-of w h) ≡ true
     pub there : Spotted size w h v
-    pub below : y < h
+    pub below : y < v .rows
 
   pub has : has-it ≡ true → Has
   has e =
       let p = and-true (accepted (shift-of w h)) _ e in
-      let q = and-true (accepted (spotted size w h v)) (ltb y h) (p .1) in
-      let n = is-accepted (shift-of w h) (p .0) in
+      let q = and-true (accepted (spotted size w h v)) (ltb y (v .rows)) (p .1) in
       let k = is-accepted (spotted size w h v) (q .0) in
-      record { wide = side-bounds w (shift-sided w h (n .0) (n .1) .0); there = spotted-by size w h v (k .0) (k .1) .0; below = ltb-true y h (q .1) }
+      record { sized = p .0; there = spotted-by size w h v (k .0) (k .1) .0; below = ltb-true y (v .rows) (q .1) }
 
   module _ (e : has-it ≡ true) where
-    fits : place a y w ≤ size
+    fits : place a y (v .columns) ≤ size
     fits = row-fits size w h v (has e .there) y (has e .below)
 
-    pub row-length : length handed ≡ w
-    row-length = ap length (by-test e) ∙ length-take-le w (drop (begins (spot v) y) (a .pixels)) (omega (arith, fits, length-drop (begins (spot v) y) (a .pixels)))
+    -- and some of it is there
+    pub some : 1 ≤ v .columns
+    some = columns-in w h v (has e .there .seen) .0
 
-    pub row-pixel : (x : ℕ) → x < w → getD handed x 0 ≡ getD (a .pixels) (place a y x) 0
-    row-pixel x l = ap (λ (ps : List ℕ). getD ps x 0) (by-test e) ∙ getD-take w (drop (begins (spot v) y) (a .pixels)) x 0 l ∙ getD-drop (begins (spot v) y) (a .pixels) x 0
+    pub row-length : length handed ≡ v .columns
+    row-length =
+        ap length (by-test e)
+        ∙ length-take-le (v .columns) (drop (begins (spot v) y) (a .pixels)) (omega (arith, fits, length-drop (begins (spot v) y) (a .pixels)))
+
+    pub row-pixel : (x : ℕ) → x < v .columns → getD handed x 0 ≡ getD (a .pixels) (place a y x) 0
+    row-pixel x l =
+        ap (λ (ps : List ℕ). getD ps x 0) (by-test e)
+        ∙ getD-take (v .columns) (drop (begins (spot v) y) (a .pixels)) x 0 l ∙ getD-drop (begins (spot v) y) (a .pixels) x 0
 
   -- in any case the part is inside
   pub part-fits : {p : Part} → p ≡ found has-it → p .from + p .size ≤ size

@@ -1,4 +1,4 @@
--- No second answer meets the contract of in_pixels, of rows, of spot, of row or of row_mut: what these two hand back points to one place and holds one list.
+-- No second answer meets the contract of in_pixels, of rows, of spot, of row or of row_mut.
 use mathlib.Core.Path.{_≡_, refl, sym, _∙_}
 use mathlib.Core.Bool.{cond}
 use mathlib.Core.List.{List}
@@ -13,7 +13,7 @@ use Rattle.strided.specs.declared.RowsCheck.{RowsCheck}
 use Rattle.strided.specs.declared.RowsCheck.the-variants.{Inside, Outside}
 use Rattle.strided.specs.declared.Spot.{Spot}
 use Rattle.strided.specs.declared.SpotCheck.{SpotCheck}
-use Rattle.strided.specs.declared.SpotCheck.the-variants.{Found, BadStride, RowOutside}
+use Rattle.strided.specs.declared.SpotCheck.the-variants.{Found, NotVisible, BadStride, RowOutside}
 use Rattle.strided.specs.declared.StrideCheck.{StrideCheck}
 use Rattle.strided.specs.declared.StrideCheck.the-variants.{Pixels, Refused}
 use Rattle.strided.specs.declared.View.{View}
@@ -43,15 +43,17 @@ one-rows c r r′ = one-answer rows-check rows-back rows-back-is
 
 abbrev spot-back : Check Spot → SpotCheck
 spot-back (accept s) = Found s
-spot-back (refuse n i) = cond (eqb n 7) BadStride RowOutside
+spot-back (refuse n i) = cond (eqb n 20) NotVisible (cond (eqb n 7) BadStride RowOutside)
 
 spot-back-is : (r : SpotCheck) → spot-back (spot-check r) ≡ r
 spot-back-is (Found s) = refl
+spot-back-is NotVisible = refl
 spot-back-is BadStride = refl
 spot-back-is RowOutside = refl
 
 pub one-spot : (size w h : ℕ) (v : View) (r r′ : SpotCheck) → spot-check r ≡ spotted size w h v → spot-check r′ ≡ spotted size w h v → r ≡ r′
 one-spot size w h v r r′ = one-answer spot-check spot-back spot-back-is
 
+-- what row and row_mut hand back points to one place and holds one list
 pub one-row : (s r r′ : RefT (List ℕ)) (p : Part) → IsPart s r p → IsPart s r′ p → (r .ptr .0 ≡ r′ .ptr .0) × (r .ptr .1 ≡ r′ .ptr .1) × (r .now ≡ r′ .now)
 one-row s r r′ p a a′ = (a .slice ∙ sym (a′ .slice), a .at ∙ sym (a′ .at), a .elements ∙ sym (a′ .elements))

@@ -1,4 +1,4 @@
--- Document 01, "The pixel plane", and numbers 7 and 8 of "Numbers of refusal".
+-- Document 01, "The pixel plane", numbers 7 and 8 of "Numbers of refusal", and request E5.
 use mathlib.Core.Bool.{Bool, true, false, not, _&&_, _||_}
 use mathlib.Core.List.{List}
 use mathlib.Core.Path.{_≡_}
@@ -16,7 +16,7 @@ use Rattle.strided.specs.declared.Part.{Part}
 use Rattle.strided.specs.declared.View.{View}
 use Rattle.strided.specs.declared.Spot.{Spot}
 use Rattle.strided.specs.declared.SpotCheck.{SpotCheck}
-use Rattle.strided.specs.declared.SpotCheck.the-variants.{Found, BadStride, RowOutside}
+use Rattle.strided.specs.declared.SpotCheck.the-variants.{Found, NotVisible, BadStride, RowOutside}
 use Rattle.strided.specs.declared.RowsCheck.{RowsCheck}
 use Rattle.strided.specs.declared.RowsCheck.the-variants.{Inside, Outside}
 use Rattle.strided.specs.declared.StrideCheck.{StrideCheck}
@@ -46,30 +46,40 @@ rows-outside size offset stride w h = any h (λ y. not (within size w (starts of
 
 -- ---- the plane
 
+-- number 20 (E5): "visible columns not in 1..w or rows not in 1..h"
+abbrev pub not-in : ℕ → ℕ → Bool
+not-in n k = ltb k 1 || ltb n k
+
+abbrev pub bad-view : ℕ → ℕ → View → Bool
+bad-view w h v = not-in w (v .columns) || not-in h (v .rows)
+
 -- the view with its stride in pixels
 abbrev pub spot : View → Spot
-spot v = record { offset = v .offset; stride = record { 0 = in-pixels (v .stride .0) } }
+spot v = record { offset = v .offset; stride = record { 0 = in-pixels (v .stride .0) }; columns = v .columns; rows = v .rows }
 
 -- where row y starts, as a place in the slice
 abbrev pub begins : Spot → ℕ → ℕ
 begins s y = natAbs (starts (s .offset) (s .stride .0) y)
 
-abbrev pub spot-outside : ℕ → ℕ → ℕ → Spot → Bool
-spot-outside size w h s = rows-outside size (s .offset) (s .stride .0) w h
+-- number 8 (E5): it "looks at visible parts of visible rows only"
+abbrev pub spot-outside : ℕ → Spot → Bool
+spot-outside size s = rows-outside size (s .offset) (s .stride .0) (s .columns) (s .rows)
 
--- numbers 7 and 8 of a view in a slice of so many pixels
+-- numbers 20, 7 and 8 of a view in a slice of so many pixels
 abbrev pub spotted : ℕ → ℕ → ℕ → View → Check Spot
 spotted size w h v =
-    unless (bad-stride w (v .stride .0)) 7
-    (unless (spot-outside size w h (spot v)) 8
-    (accept (spot v)))
+    unless (bad-view w h v) 20
+    (unless (bad-stride w (v .stride .0)) 7
+    (unless (spot-outside size (spot v)) 8
+    (accept (spot v))))
 
--- numbers 7 and 8 do not hold
+-- numbers 20, 7 and 8 do not hold
 pub record Spotted (size w h : ℕ) (v : View) : Type 0 where
+  pub seen : bad-view w h v ≡ false
   pub stride : bad-stride w (v .stride .0) ≡ false
-  pub inside : spot-outside size w h (spot v) ≡ false
+  pub inside : spot-outside size (spot v) ≡ false
 
--- "a lent slice, an offset in pixels .. and a stride", which counts bytes
+-- "a lent slice, an offset in pixels .. and a stride", which counts bytes, and "the number of visible columns and rows" (E5)
 pub record Plane : Type 0 where
   pub pixels : List ℕ
   pub view : View
@@ -78,12 +88,12 @@ pub record Plane : Type 0 where
 abbrev pub lent : List ℕ → View → Plane
 lent pixels view = record { pixels = pixels; view = view }
 
--- the plane that is a block's own pixels and no others
-abbrev pub whole : ℕ → View
-whole w = record { offset = 0; stride = record { 0 = pos (2 * w) } }
+-- the view of a slice that is the block's own pixels, row by row, all visible
+abbrev pub whole : ℕ → ℕ → View
+whole w h = record { offset = 0; stride = record { 0 = pos (2 * w) }; columns = w; rows = h }
 
-abbrev pub row-outside : ℕ → ℕ → Plane → Bool
-row-outside w h a = spot-outside (length (a .pixels)) w h (spot (a .view))
+abbrev pub row-outside : Plane → Bool
+row-outside a = spot-outside (length (a .pixels)) (spot (a .view))
 
 -- where the pixel of row y, column x stands
 abbrev pub place : Plane → ℕ → ℕ → ℕ
@@ -95,19 +105,19 @@ abbrev pub accepted : {A : Type 0} → Check A → Bool
 accepted (accept a) = true
 accepted (refuse n i) = false
 
--- "an empty part exactly when number 1, 7 or 8 holds or y is h or more": whether a slice of so many pixels has the row
+-- "an empty part exactly when number 1, 7 or 8 holds", "also for 20 or an invisible row" (E5): whether a slice of so many pixels has the row
 abbrev pub has-row : ℕ → View → ℕ → ℕ → ℕ → Bool
-has-row size v w h y = accepted (shift-of w h) && (accepted (spotted size w h v) && ltb y h)
+has-row size v w h y = accepted (shift-of w h) && (accepted (spotted size w h v) && ltb y (v .rows))
 
--- where it stands: so many pixels, from a place on
-abbrev pub part-when : Bool → View → ℕ → ℕ → Part
-part-when true v w y = record { from = begins (spot v) y; size = w }
-part-when false v w y = record { from = 0; size = 0 }
+-- where it stands: "the visible part of a visible row" (E5)
+abbrev pub part-when : Bool → View → ℕ → Part
+part-when true v y = record { from = begins (spot v) y; size = v .columns }
+part-when false v y = record { from = 0; size = 0 }
 
 abbrev pub row-part : ℕ → View → ℕ → ℕ → ℕ → Part
-row-part size v w h y = part-when (has-row size v w h y) v w y
+row-part size v w h y = part-when (has-row size v w h y) v y
 
--- "it hands back the w pixels of row y themselves, as that part of the lent plane": r points into s, at two bytes a pixel, and holds what stands there
+-- "it hands back the .. pixels of row y themselves, as that part of the lent plane": r points into s, at two bytes a pixel, and holds what stands there
 pub record IsPart (s r : RefT (List ℕ)) (p : Part) : Type 0 where
   pub slice : r .ptr .0 ≡ s .ptr .0
   pub at : r .ptr .1 ≡ s .ptr .1 + p .from * 2
@@ -128,5 +138,6 @@ rows-check Outside = refuse 8 0
 
 abbrev pub spot-check : SpotCheck → Check Spot
 spot-check (Found s) = accept s
+spot-check NotVisible = refuse 20 0
 spot-check BadStride = refuse 7 0
 spot-check RowOutside = refuse 8 0

@@ -24,21 +24,26 @@ pub enum RowsCheck {
     Outside,
 }
 
-// Where a block lies in a plane: a plane is a slice and a view.
+// Where a block lies in a plane, and how many of its columns and rows are visible (E5): a plane is a slice and a view.
 pub struct View {
     pub offset: u32,
     pub stride: ByteStride,
+    pub columns: usize,
+    pub rows: usize,
 }
 
 // A view whose stride was turned.
 pub struct Spot {
     pub offset: u32,
     pub stride: PixelStride,
+    pub columns: usize,
+    pub rows: usize,
 }
 
-// Numbers 7 and 8 of the refusals, in the order of the checks.
+// Numbers 20, 7 and 8 of the refusals, in the order of the checks.
 pub enum SpotCheck {
     Found(Spot),
+    NotVisible,
     BadStride,
     RowOutside,
 }
@@ -111,26 +116,33 @@ impl PixelStride {
 }
 
 impl View {
-    // Numbers 7 and 8. The stride is turned here, once.
+    // Numbers 20, 7 and 8. The stride is turned here, once.
     pub fn spot(self, size: usize, w: usize, h: usize) -> SpotCheck
         ensures { λ r. ⌜ spot-check r ≡ spotted size w h self ⌝ }
     {
         let offset = self.offset;
         let stride = self.stride;
+        let columns = self.columns;
+        let rows = self.rows;
+        if ((columns < 1) | (w < columns)) | ((rows < 1) | (h < rows)) {
+            return SpotCheck::NotVisible;
+        }
         let StrideCheck::Pixels(pixels) = stride.in_pixels(w) else {
             return SpotCheck::BadStride;
         };
-        let RowsCheck::Inside = pixels.rows(size, offset, w, h) else {
+        let RowsCheck::Inside = pixels.rows(size, offset, columns, rows) else {
             return SpotCheck::RowOutside;
         };
         SpotCheck::Found(Spot {
             offset,
             stride: pixels,
+            columns,
+            rows,
         })
     }
 }
 
-// Where row y of a block stands in a slice of this size, or an empty part.
+// Where the visible part of row y stands in a slice of this size, or an empty part.
 fn lookup(size: usize, view: View, w: usize, h: usize, y: usize) -> Part
     ensures { λ r. ⌜ r ≡ row-part size view w h y ⌝ }
 {
@@ -141,7 +153,8 @@ fn lookup(size: usize, view: View, w: usize, h: usize, y: usize) -> Part
     let SpotCheck::Found(spot) = view.spot(size, w, h) else {
         return none;
     };
-    if h <= y {
+    let rows = spot.rows;
+    if rows <= y {
         return none;
     }
     let offset = spot.offset;
@@ -149,11 +162,11 @@ fn lookup(size: usize, view: View, w: usize, h: usize, y: usize) -> Part
     let from = stride.start(offset, y as u16);
     Part {
         from: from as usize,
-        size: w,
+        size: spot.columns,
     }
 }
 
-// Row y of a block, as that part of the plane, or an empty part.
+// The visible part of row y of a block, as that part of the plane, or an empty part.
 pub fn row<'a>(dst: &'a [u16], view: View, w: usize, h: usize, y: usize) -> &'a [u16]
     ensures { λ r. ⌜ IsPart (dst .entry) r (row-part (length (now (dst .entry))) view w h y) ⌝ }
 {

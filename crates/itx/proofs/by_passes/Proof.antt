@@ -48,13 +48,14 @@ add-block-requires : tie.Need-add-block-requires
 add-block-requires c κs =
     let s = c .before .before .before .before .before .before .before .before .before in
     let k = s .pre .0 .sized in
-    adding (c .before .before .before .resolve .ensures) k (mul-le-mul (side-bounds _ (k .height) .1) (side-bounds _ (k .width) .1)) (s .pre .0 .inside)
+    adding (c .before .before .before .resolve .ensures) (s .pre .0 .columns-in) (s .pre .0 .rows-in) k (mul-le-mul (side-bounds _ (k .height) .1) (side-bounds _ (k .width) .1)) (s .pre .0 .inside)
 
 returns-2 : tie.Need-returns-2
 returns-2 c =
     let o = c .before .before .before .before .before in
     let b = o .before .before .before .before in
-    painted (b .resolve .ensures) (b .before .before .before .maximum .ensures) (o .add-block .ensures) (c .before .clear .ensures)
+    let s = b .before .before .before .before .before .before in
+    painted (b .resolve .ensures) (s .pre .0 .columns-in) (s .pre .0 .rows-in) (b .before .before .before .maximum .ensures) (o .add-block .ensures) (c .before .clear .ensures)
 
 pub by-passes-spec : {M : Type 1} → statement M
 by-passes-spec =

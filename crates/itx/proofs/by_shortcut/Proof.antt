@@ -47,16 +47,15 @@ shift-block-requires : tie.Need-shift-block-requires
 shift-block-requires c κs =
     let o = c .before in
     let s = begun o in
-    record { height = side-bounds (s .args .plan .h) (s .pre .sized .height) .1; inside = s .pre .inside; small = small o }
+    record { height = omega (arith, s .pre .rows-in, side-bounds (s .args .plan .h) (s .pre .sized .height) .1); inside = s .pre .inside; small = small o }
 
 returns : tie.Need-returns
 returns c =
     let b = c .before .before in
     let o = b .before .before in
     let s = begun o in
-    let p = s .args .plan in
     record {
-      pixels-are = b .shift-block .ensures ∙ (λ k. add-rows (o .before .before .maximum .ensures k) (s .args .dst .now) (begins (s .args .spot)) (λ y x. number-is o k) (p .w) (p .h));
+      pixels-are = b .shift-block .ensures ∙ (λ k. add-rows (o .before .before .maximum .ensures k) (s .args .dst .now) (begins (s .args .spot)) (λ y x. number-is o k) (s .args .spot .columns) (s .args .spot .rows));
       coefs-are = refl;
     }
 

@@ -10,7 +10,7 @@ use Rattle.strided.specs.declared.Spot.{Spot}
 use Rattle.strided.specs.declared.SpotCheck.{SpotCheck}
 use Rattle.strided.specs.declared.SpotCheck.the-variants.{Found}
 use Rattle.strided.specs.declared.View.{View}
-use Rattle.strided.specs.Planes.{bad-stride, spot, spot-outside, spotted, spot-check}
+use Rattle.strided.specs.Planes.{bad-view, bad-stride, spot, spot-outside, spotted, spot-check}
 use Rattle.strided.proofs.Rows.{spotted-by}
 use Rattle.itx.specs.Answers.{verdict-of, Lies}
 use Rattle.itx.specs.Calls.{plane-lines}
@@ -20,12 +20,13 @@ use Rattle.itx.proofs.check_plane.Tie as tie
 
 -- the lines of the plane are the check of its view
 by-view : (size : ℕ) (v : View) (p : Plan) (d : Depth) → then {C = Plan × Depth} (spotted size (p .w) (p .h) v) (λ s. accept (p, d)) ≡ judged (plane-lines size v) (p, d)
-by-view size v p d = go (bad-stride (p .w) (v .stride .0)) (spot-outside size (p .w) (p .h) (spot v))
+by-view size v p d = go (bad-view (p .w) (p .h) v) (bad-stride (p .w) (v .stride .0)) (spot-outside size (spot v))
   where
-    go : (t u : Bool) → then {C = Plan × Depth} (unless t 7 (unless u 8 (accept (spot v)))) (λ s. accept (p, d)) ≡ unless-at (when t) 7 (unless-at (when u) 8 (accept (p, d)))
-    go true u = refl
-    go false true = refl
-    go false false = refl
+    go : (t u i : Bool) → then {C = Plan × Depth} (unless t 20 (unless u 7 (unless i 8 (accept (spot v))))) (λ s. accept (p, d)) ≡ unless-at (when t) 20 (unless-at (when u) 7 (unless-at (when i) 8 (accept (p, d))))
+    go true u i = refl
+    go false true i = refl
+    go false false true = refl
+    go false false false = refl
 
 module _ (o : tie.After-spot) where
   abbrev begun : tie.Start
@@ -58,6 +59,8 @@ check-plane-spec =
     (λ c. search needs)
     (λ c. search needs)
     (λ c. search needs)
+    (λ c. search needs)
     (λ c. let o = c .before .before .before in (tested o (c .before .found .given .1), lies o (c .before .found .given .1)))
     (λ c. (tested (c .before .before) (c .enum-told .given .1), tt))
-    (λ c. (tested (c .before .before) (c .enum-told2 .given .1), tt)))
+    (λ c. (tested (c .before .before) (c .enum-told2 .given .1), tt))
+    (λ c. (tested (c .before .before) (c .enum-told3 .given .1), tt)))

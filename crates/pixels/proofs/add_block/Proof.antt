@@ -21,11 +21,11 @@ use Rattle.pixels.proofs.add_block.Statement.{statement}
 use Rattle.pixels.proofs.add_block.Tie as tie
 
 abbrev Inv-loop : tie.InvT-loop
-Inv-loop ps₀ t step columns w h top offset stride y₀ ps y =
-    (ps ≡ add-rows top ps₀ (λ y. natAbs (starts offset (stride .0) y)) (λ i x. left columns (at t (i * step + x))) w y) × (y ≤ h)
+Inv-loop ps₀ t step columns top offset stride n y₀ h ps y =
+    (ps ≡ add-rows top ps₀ (λ y. natAbs (starts offset (stride .0) y)) (λ i x. left columns (at t (i * step + x))) n y) × (y ≤ h)
 
 abbrev μ-loop : tie.MeasureT-loop
-μ-loop ps₀ t step columns w h top offset stride y₀ ps y = h - y
+μ-loop ps₀ t step columns top offset stride n y₀ h ps y = h - y
 
 -- what is added in row y, column x
 abbrev added : tie.Start Inv-loop μ-loop → ℕ → ℕ → ℤ
@@ -47,10 +47,11 @@ module _ (c : tie.In-loop Inv-loop μ-loop) where
   row-small : row ≤ 32
   row-small = omega (arith, c .loop-test .taken, s .pre .height)
 
-  here : (nn (starts (at-spot .offset) (at-spot .stride .0) row) ≡ 0) × (begins at-spot row + s .args .w ≤ length (s .args .ps .now))
-  here = row-here (length (s .args .ps .now)) (s .args .w) (s .args .h) at-spot (s .pre .inside) row (c .loop-test .taken)
+  here : (nn (starts (at-spot .offset) (at-spot .stride .0) row) ≡ 0) × (begins at-spot row + at-spot .columns ≤ length (s .args .ps .now))
+  here = row-here (length (s .args .ps .now)) at-spot (s .pre .inside) row (c .loop-test .taken)
 
-from-is : (c : tie.After-start Inv-loop μ-loop) → let i = c .before in read w64 (c .start .result) ≡ starts (at-spot i .offset) (at-spot i .stride .0) (row i)
+from-is : (c : tie.After-start Inv-loop μ-loop) → let i = c .before in
+    read w64 (c .start .result) ≡ starts (at-spot i .offset) (at-spot i .stride .0) (row i)
 from-is c = toZ-ofZ w64 (c .start .result) (record { sfits = c .start .ok }) ∙ c .start .ensures
 
 add-row-requires : tie.Need-add-row-requires Inv-loop μ-loop
@@ -72,7 +73,8 @@ loop-again c =
     let i = f .before in
     let a = s i .args in
     let l = i .before .loop in (
-      rows-more (a .top) (a .ps .now) (begins (a .spot)) (added (s i)) (a .w) (l .y) (l .inv .0) (ap natAbs (from-is f)) (r .add-row .ensures),
+      rows-more (a .top) (a .ps .now) (begins (a .spot)) (added (s i)) (a .spot .columns) (l .y) (l .inv .0)
+          (ap natAbs (from-is f)) (r .add-row .ensures),
       omega (arith, i .loop-test .taken),
     )
 
@@ -80,7 +82,8 @@ returns : tie.Need-returns Inv-loop μ-loop
 returns c =
     let b = c .before .before .before .before in
     let l = c .before .loop in
-    l .inv .0 ∙ ap (add-rows (b .args .top) (b .args .ps .now) (begins (b .args .spot)) (added b) (b .args .w)) (omega (arith, l .inv .1, c .loop-test .left))
+    l .inv .0 ∙ ap (add-rows (b .args .top) (b .args .ps .now) (begins (b .args .spot)) (added b) (b .args .spot .columns))
+    (omega (arith, l .inv .1, c .loop-test .left))
 
 pub add-block-spec : {M : Type 1} → statement M
 add-block-spec =

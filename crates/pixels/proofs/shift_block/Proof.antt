@@ -19,11 +19,11 @@ use Rattle.pixels.proofs.shift_block.Statement.{statement}
 use Rattle.pixels.proofs.shift_block.Tie as tie
 
 abbrev Inv-loop : tie.InvT-loop
-Inv-loop ps₀ v w h top offset stride y₀ ps y =
-    (ps ≡ add-rows top ps₀ (λ y. natAbs (starts offset (stride .0) y)) (λ i x. toZ w32 v) w y) × (y ≤ h)
+Inv-loop ps₀ v top offset stride n y₀ h ps y =
+    (ps ≡ add-rows top ps₀ (λ y. natAbs (starts offset (stride .0) y)) (λ i x. toZ w32 v) n y) × (y ≤ h)
 
 abbrev μ-loop : tie.MeasureT-loop
-μ-loop ps₀ v w h top offset stride y₀ ps y = h - y
+μ-loop ps₀ v top offset stride n y₀ h ps y = h - y
 
 as-long : (c : tie.At-loop Inv-loop μ-loop) → length (c .loop .ps) ≡ length (c .before .before .before .args .ps .now)
 as-long c = ap length (c .loop .inv .0) ∙ rows-length _ _ _ _ _ (c .loop .y)
@@ -41,10 +41,11 @@ module _ (c : tie.In-loop Inv-loop μ-loop) where
   row-small : row ≤ 32
   row-small = omega (arith, c .loop-test .taken, s .pre .height)
 
-  here : (nn (starts (at-spot .offset) (at-spot .stride .0) row) ≡ 0) × (begins at-spot row + s .args .w ≤ length (s .args .ps .now))
-  here = row-here (length (s .args .ps .now)) (s .args .w) (s .args .h) at-spot (s .pre .inside) row (c .loop-test .taken)
+  here : (nn (starts (at-spot .offset) (at-spot .stride .0) row) ≡ 0) × (begins at-spot row + at-spot .columns ≤ length (s .args .ps .now))
+  here = row-here (length (s .args .ps .now)) at-spot (s .pre .inside) row (c .loop-test .taken)
 
-from-is : (c : tie.After-start Inv-loop μ-loop) → let i = c .before in read w64 (c .start .result) ≡ starts (at-spot i .offset) (at-spot i .stride .0) (row i)
+from-is : (c : tie.After-start Inv-loop μ-loop) → let i = c .before in
+    read w64 (c .start .result) ≡ starts (at-spot i .offset) (at-spot i .stride .0) (row i)
 from-is c = toZ-ofZ w64 (c .start .result) (record { sfits = c .start .ok }) ∙ c .start .ensures
 
 -- the number that is added, as it is held
@@ -69,7 +70,8 @@ loop-again c =
     let i = f .before in
     let a = s i .args in
     let l = i .before .loop in (
-      rows-more (a .top) (a .ps .now) (begins (a .spot)) (λ y x. toZ w32 (ofZ w32 (a .v))) (a .w) (l .y) (l .inv .0) (ap natAbs (from-is f)) (r .shift-row .ensures),
+      rows-more (a .top) (a .ps .now) (begins (a .spot)) (λ y x. toZ w32 (ofZ w32 (a .v))) (a .spot .columns) (l .y) (l .inv .0)
+          (ap natAbs (from-is f)) (r .shift-row .ensures),
       omega (arith, i .loop-test .taken),
     )
 
@@ -78,8 +80,8 @@ returns c =
     let b = c .before .before .before .before in
     let a = b .args in
     let l = c .before .loop in
-    let all : l .y ≡ a .h = omega (arith, l .inv .1, c .loop-test .left) in
-    l .inv .0 ∙ (λ k. add-rows (a .top) (a .ps .now) (begins (a .spot)) (λ y x. held b k) (a .w) (all k))
+    let all : l .y ≡ a .spot .rows = omega (arith, l .inv .1, c .loop-test .left) in
+    l .inv .0 ∙ (λ k. add-rows (a .top) (a .ps .now) (begins (a .spot)) (λ y x. held b k) (a .spot .columns) (all k))
 
 pub shift-block-spec : {M : Type 1} → statement M
 shift-block-spec =

@@ -2,14 +2,14 @@
 use mathlib.Core.Path.{_≡_, refl, sym, ap, _∙_}
 use mathlib.Core.List.{[], _∷_}
 use mathlib.Core.Bool.{Bool, false, _&&_}
-use Prim.Native.Nat.{_+_, _≤_}
+use Prim.Native.Nat.{_+_, _≤_, _<_}
 use native.Mathlib.Omega.{arith}
 use denote.Enum.Declared.{tagOf}
 use types.Run.{OneOf, miss}
 use borrow.Author.Needs.{needs}
 use borrow.Author.Tests.{lt-ltb, le-ltb}
 use lib.Dec.{ltb}
-use lib.IntN.{ℤ, natAbs}
+use lib.IntN.{natAbs}
 use mir.Syntax.{w64}
 use mir.ValLaws.{toZ-ofZ}
 use Rattle.whole.specs.Checks.{accept}
@@ -18,12 +18,12 @@ use Rattle.levels.specs.Plans.{shift-check, shift-of}
 use Rattle.levels.proofs.Sizes.{side-bounds, shift-sided}
 use Rattle.strided.specs.declared.Spot.{Spot}
 use Rattle.strided.specs.declared.SpotCheck.{SpotCheck}
-use Rattle.strided.specs.declared.SpotCheck.the-variants.{Found, BadStride, RowOutside}
+use Rattle.strided.specs.declared.SpotCheck.the-variants.{Found, NotVisible, BadStride, RowOutside}
 use Rattle.strided.specs.declared.View.{View}
 use Rattle.strided.proofs.SpotCheck.{the-type}
 use Rattle.strided.specs.Planes.{starts, begins, spot, spotted, Spotted, spot-check, accepted, part-when, row-part}
 use Rattle.strided.proofs.Casts.{read, to-usize}
-use Rattle.strided.proofs.Rows.{row-here, spotted-by}
+use Rattle.strided.proofs.Rows.{rows-in, row-here, spotted-by}
 use Rattle.strided.proofs.lookup.Statement.{statement}
 use Rattle.strided.proofs.lookup.Tie as tie
 
@@ -33,9 +33,9 @@ module _ (s : tie.Start) where
   v = s .args .view
 
   by-tests : {p q t : Bool} → accepted (shift-of (s .args .w) (s .args .h)) ≡ p → accepted (spotted (s .args .size) (s .args .w) (s .args .h) v) ≡ q
-      → ltb (s .args .y) (s .args .h) ≡ t
-      → part-when (p && (q && t)) v (s .args .w) (s .args .y) ≡ row-part (s .args .size) v (s .args .w) (s .args .h) (s .args .y)
-  by-tests e f g = sym (λ i. part-when (e i && (f i && g i)) v (s .args .w) (s .args .y))
+      → ltb (s .args .y) (v .rows) ≡ t
+      → part-when (p && (q && t)) v (s .args .y) ≡ row-part (s .args .size) v (s .args .w) (s .args .h) (s .args .y)
+  by-tests e f g = sym (λ i. part-when (e i && (f i && g i)) v (s .args .y))
 
 returns : tie.Need-returns
 returns c =
@@ -53,8 +53,9 @@ module _ (c : tie.After-enum-told) where
   h-small : begun .args .h ≤ 32
   h-small = side-bounds _ (shift-sided (begun .args .w) (begun .args .h) (c .enum-told .given .0 .0) shift-is .1) .1
 
-not-found : (k : SpotCheck) → OneOf (1 ∷ 2 ∷ []) (tagOf the-type k) → accepted (spot-check k) ≡ false
-not-found (Found s) h = absurd (miss (1 ∷ 2 ∷ []) 0 tt h)
+not-found : (k : SpotCheck) → OneOf (1 ∷ 2 ∷ 3 ∷ []) (tagOf the-type k) → accepted (spot-check k) ≡ false
+not-found (Found s) h = absurd (miss (1 ∷ 2 ∷ 3 ∷ []) 0 tt h)
+not-found NotVisible h = refl
 not-found BadStride h = refl
 not-found RowOutside h = refl
 
@@ -81,14 +82,17 @@ module _ (c : tie.After-known-told) where
   view-is : Spotted (s .args .size) (s .args .w) (s .args .h) (v s) × (found ≡ spot (v s))
   view-is = spotted-by (s .args .size) (s .args .w) (s .args .h) (v s) found spotted-is
 
-  decided : {t : Bool} → ltb (s .args .y) (s .args .h) ≡ t
-      → part-when t (v s) (s .args .w) (s .args .y) ≡ row-part (s .args .size) (v s) (s .args .w) (s .args .h) (s .args .y)
-  decided e = by-tests s (ap accepted (shift-is sized)) (ap accepted spotted-is) e
+  rows-are : v s .rows ≡ found .rows
+  rows-are = ap (λ (a : Spot). a .rows) (sym (view-is .1))
+
+  decided : {t : Bool} → ltb (s .args .y) (found .rows) ≡ t
+      → part-when t (v s) (s .args .y) ≡ row-part (s .args .size) (v s) (s .args .w) (s .args .h) (s .args .y)
+  decided e = by-tests s (ap accepted (shift-is sized)) (ap accepted spotted-is) (ap (ltb (s .args .y)) rows-are ∙ e)
 
 returns-3 : tie.Need-returns-3
 returns-3 c = decided (c .before) (le-ltb _ _ (c .if1 .taken))
 
--- row y, which is inside
+-- row y, which is visible
 module _ (c : tie.Else1) where
   abbrev k : tie.After-known-told
   k = c .before
@@ -96,11 +100,17 @@ module _ (c : tie.Else1) where
   abbrev at : Spot
   at = spot (v (s k))
 
-  here : (nn (starts (at .offset) (at .stride .0) (s k .args .y)) ≡ 0) × (begins at (s k .args .y) + s k .args .w ≤ s k .args .size)
-  here = row-here (s k .args .size) (s k .args .w) (s k .args .h) at (view-is k .0 .inside) (s k .args .y) (c .if1 .left)
+  below : s k .args .y < at .rows
+  below = omega (arith, rows-are k, c .if1 .left)
+
+  here : (nn (starts (at .offset) (at .stride .0) (s k .args .y)) ≡ 0) × (begins at (s k .args .y) + at .columns ≤ s k .args .size)
+  here = row-here (s k .args .size) at (view-is k .0 .inside) (s k .args .y) below
 
 cast-start : tie.Need-cast-start
-cast-start c = let e = c .before in record { fits = omega (arith, e .if1 .left, h-small (sized (k e))) }
+cast-start c =
+    let e = c .before in
+    let a = s (k e) .args in
+    record { fits = omega (arith, below e, rows-in (a .w) (a .h) (a .view) (view-is (k e) .0 .seen) .1, h-small (sized (k e))) }
 
 from-is : (c : tie.After-start) → let e = c .before .before in read w64 (c .start .result) ≡ starts (at e .offset) (at e .stride .0) (s (k e) .args .y)
 from-is c =
@@ -111,7 +121,7 @@ from-is c =
 returns-4 : tie.Need-returns-4
 returns-4 c =
     let e = c .before .before in
-    ap (λ (z : ℤ). record { from = natAbs z; size = s (k e) .args .w }) (from-is c) ∙ decided (k e) (lt-ltb _ _ (e .if1 .left))
+    (λ i. record { from = natAbs (from-is c i); size = view-is (k e) .1 i .columns }) ∙ decided (k e) (lt-ltb _ _ (e .if1 .left))
 
 pub lookup-spec : {M : Type 1} → statement M
 lookup-spec =

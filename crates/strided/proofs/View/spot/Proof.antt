@@ -6,35 +6,40 @@ use lib.IntN.{ℤ}
 use Rattle.whole.specs.Checks.{accept, unless}
 use Rattle.whole.proofs.Checks.{open-unless, same-accept, refused-by}
 use Rattle.strided.specs.declared.View.{View}
-use Rattle.strided.specs.Planes.{in-pixels, bad-stride, rows-outside, spot, spot-outside, spotted, stride-check, rows-check}
+use Rattle.strided.specs.Planes.{in-pixels, bad-stride, bad-view, rows-outside, spot, spot-outside, spotted, stride-check, rows-check}
 use Rattle.strided.proofs.View.spot.Statement.{statement}
 use Rattle.strided.proofs.View.spot.Tie as tie
 
--- the two tests and what follows them
+-- the three tests and what follows them
 module _ (s : tie.Start) where
   abbrev v : View
   v = s .args .self
 
-  by-tests : {p q : Bool} → bad-stride (s .args .w) (v .stride .0) ≡ p → spot-outside (s .args .size) (s .args .w) (s .args .h) (spot v) ≡ q
-      → unless p 7 (unless q 8 (accept (spot v))) ≡ spotted (s .args .size) (s .args .w) (s .args .h) v
-  by-tests e f = sym (λ i. unless (e i) 7 (unless (f i) 8 (accept (spot v))))
+  by-tests : {p q r : Bool} → bad-view (s .args .w) (s .args .h) v ≡ p → bad-stride (s .args .w) (v .stride .0) ≡ q
+      → spot-outside (s .args .size) (spot v) ≡ r
+      → unless p 20 (unless q 7 (unless r 8 (accept (spot v)))) ≡ spotted (s .args .size) (s .args .w) (s .args .h) v
+  by-tests e f g = sym (λ i. unless (e i) 20 (unless (f i) 7 (unless (g i) 8 (accept (spot v)))))
 
 returns : tie.Need-returns
-returns c =
+returns c = by-tests (c .before .before) (c .if1 .taken) refl refl
+
+returns-2 : tie.Need-returns-2
+returns-2 c =
     let o = c .before .before in
-    let s = o .before .before in
-    by-tests s (refused-by _ 7 (in-pixels (v s .stride .0)) (sym (o .in-pixels .ensures) ∙ ap stride-check (c .enum-told .given .1))) refl
+    let s = o .before .before .before in
+    by-tests s (o .before .if1 .left)
+    (refused-by _ 7 (in-pixels (v s .stride .0)) (sym (o .in-pixels .ensures) ∙ ap stride-check (c .enum-told .given .1))) refl
 
 -- after the stride
 module _ (c : tie.After-rows) where
   abbrev s : tie.Start
-  s = c .before .before .before .before .before .before
+  s = c .before .before .before .before .before .before .before
 
   abbrev pixels : ℤ
   pixels = c .before .before .pixels .given .0 .0 .0
 
   abbrev outside : ℤ → Bool
-  outside z = rows-outside (s .args .size) (v s .offset) z (s .args .w) (s .args .h)
+  outside z = rows-outside (s .args .size) (v s .offset) z (v s .columns) (v s .rows)
 
   opened : (bad-stride (s .args .w) (v s .stride .0) ≡ false) × (accept (in-pixels (v s .stride .0)) ≡ accept pixels)
   opened =
@@ -44,29 +49,31 @@ module _ (c : tie.After-rows) where
   pixels-are : in-pixels (v s .stride .0) ≡ pixels
   pixels-are = same-accept (in-pixels (v s .stride .0)) pixels (opened .1)
 
-  -- number 8 is judged by the stride in pixels
+  -- the view was seen, and number 8 is judged by the stride in pixels
   judged : {t : Bool} → outside pixels ≡ t → unless t 8 (accept (spot (v s))) ≡ spotted (s .args .size) (s .args .w) (s .args .h) (v s)
-  judged e = by-tests s (opened .0) (ap outside pixels-are ∙ e)
-
-returns-2 : tie.Need-returns-2
-returns-2 c = let o = c .before .before in judged o (refused-by _ 8 tt (sym (o .rows .ensures) ∙ ap rows-check (c .enum-told3 .given .1)))
+  judged e = by-tests s (c .before .before .before .before .before .if1 .left) (opened .0) (ap outside pixels-are ∙ e)
 
 returns-3 : tie.Need-returns-3
-returns-3 c =
+returns-3 c = let o = c .before .before in judged o (refused-by _ 8 tt (sym (o .rows .ensures) ∙ ap rows-check (c .enum-told3 .given .1)))
+
+returns-4 : tie.Need-returns-4
+returns-4 c =
     let o = c .before .before in
-    ap (λ (z : ℤ). accept (record { offset = v (s o) .offset; stride = record { 0 = z } })) (sym (pixels-are o))
+    let a = v (s o) in
+    ap (λ (z : ℤ). accept (record { offset = a .offset; stride = record { 0 = z }; columns = a .columns; rows = a .rows })) (sym (pixels-are o))
     ∙ judged o (open-unless _ 8 (accept tt) tt (sym (o .rows .ensures) ∙ ap rows-check (c .enum-told2 .given .1)) .0)
 
 pub spot-spec : {M : Type 1} → statement M
 spot-spec =
     tie.close
     (tie.spec
-    (λ c κs. search needs)
-    (λ c. search needs)
-    (λ c. search needs)
     returns
     (λ c κs. search needs)
     (λ c. search needs)
     (λ c. search needs)
     returns-2
-    returns-3)
+    (λ c κs. search needs)
+    (λ c. search needs)
+    (λ c. search needs)
+    returns-3
+    returns-4)
