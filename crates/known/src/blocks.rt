@@ -14,7 +14,7 @@ fn whole(offset: u32, stride: i32, w: usize, h: usize) -> View {
     }
 }
 
-fn shown(answer: Answer, dst: &[u16], c: &[i32]) {
+pub fn shown(answer: Answer, dst: &[u16], c: &[i32]) {
     show::answer(
         itx::number(answer) as u64,
         itx::place(answer) as u64,

@@ -2,8 +2,10 @@
 // mark and what it left.
 mod blocks;
 mod passes;
+mod visible;
 
 fn main() {
     passes::all();
     blocks::all();
+    visible::all();
 }
