@@ -33,8 +33,9 @@ enum {
     SGRIFOMEL_EOB = 4,          /* eob negative */
     SGRIFOMEL_LIVE_ROWS = 5,    /* r not in 1..h */
     SGRIFOMEL_COEFFICIENTS = 6, /* fewer than w*h coefficients */
+    SGRIFOMEL_VISIBLE = 20,     /* visible columns not in 1..w, or visible rows not in 1..h */
     SGRIFOMEL_STRIDE = 7,       /* byte stride odd, or pixel stride between -(w-1) and w-1 */
-    SGRIFOMEL_ROW = 8,          /* some row not wholly inside the plane */
+    SGRIFOMEL_ROW = 8,          /* the visible part of some visible row not wholly inside the plane */
     SGRIFOMEL_RANGE = 9,        /* one of the first w*h coefficients outside the row range */
     SGRIFOMEL_STRAY = 10,       /* nonzero coefficient in a row r or later */
     SGRIFOMEL_PASS_RANGE = 11,  /* min..max not -m..m-1 with m 32768, 131072 or 524288 */
@@ -65,7 +66,9 @@ uint64_t sgrifomel_inv_dct16_half_1d(int32_t *c, size_t len, size_t stride, int3
 uint64_t sgrifomel_inv_dct32_half_1d(int32_t *c, size_t len, size_t stride, int32_t min, int32_t max);
 
 /* Two-dimensional transforms, added to a block of w by h pixels. dst is a plane of dst_len pixels, 16 bits each at every
-   depth; row y of the block starts at pixel offset + y * (stride / 2): stride counts bytes and may be negative. The
+   depth; row y of the block starts at pixel offset + y * (stride / 2): stride counts bytes and may be negative. Of the block
+   the first columns pixels of the first rows rows are visible: only these are read and written, and only these need to be
+   in the plane. A block that does not hang over the page's edge has columns w and rows h. The
    coefficient of row y, column x is coeff[y + x * h] of coeff_len. dst and coeff may not overlap, and nothing else may touch
    either during the call. Every other value of the arguments is checked. The first w*h coefficients become 0. With DCT_DCT
    and eob 0 the plain call uses and clears the first alone. The live-row call takes rows r and later for zero rows. */
@@ -90,18 +93,22 @@ enum {
     SGRIFOMEL_WHT_WHT = 16
 };
 
-uint64_t sgrifomel_inv_txfm_add(uint16_t *dst, size_t dst_len, uint32_t offset, int32_t stride, int32_t *coeff,
-                                size_t coeff_len, int32_t eob, size_t w, size_t h, size_t txtp, size_t depth);
-uint64_t sgrifomel_inv_txfm_add_live(uint16_t *dst, size_t dst_len, uint32_t offset, int32_t stride, int32_t *coeff,
-                                     size_t coeff_len, size_t r, size_t w, size_t h, size_t txtp, size_t depth);
+uint64_t sgrifomel_inv_txfm_add(uint16_t *dst, size_t dst_len, uint32_t offset, int32_t stride, size_t columns,
+                                size_t rows, int32_t *coeff, size_t coeff_len, int32_t eob, size_t w, size_t h,
+                                size_t txtp, size_t depth);
+uint64_t sgrifomel_inv_txfm_add_live(uint16_t *dst, size_t dst_len, uint32_t offset, int32_t stride, size_t columns,
+                                     size_t rows, int32_t *coeff, size_t coeff_len, size_t r, size_t w, size_t h,
+                                     size_t txtp, size_t depth);
 
 /* The same two calls by the second engine, which takes the steps of section 7.13 of the AV1 specification: no clip within a
    pass. Pixels and coefficients are those of the calls above wherever their mark is 0. Its own mark is always 0. Types with an
    ADST or FLIPADST are refused by 2. It is slow: it is there to be read, and to be compared with. */
-uint64_t sgrifomel_spec_inv_txfm_add(uint16_t *dst, size_t dst_len, uint32_t offset, int32_t stride, int32_t *coeff,
-                                     size_t coeff_len, int32_t eob, size_t w, size_t h, size_t txtp, size_t depth);
-uint64_t sgrifomel_spec_inv_txfm_add_live(uint16_t *dst, size_t dst_len, uint32_t offset, int32_t stride, int32_t *coeff,
-                                          size_t coeff_len, size_t r, size_t w, size_t h, size_t txtp, size_t depth);
+uint64_t sgrifomel_spec_inv_txfm_add(uint16_t *dst, size_t dst_len, uint32_t offset, int32_t stride, size_t columns,
+                                     size_t rows, int32_t *coeff, size_t coeff_len, int32_t eob, size_t w, size_t h,
+                                     size_t txtp, size_t depth);
+uint64_t sgrifomel_spec_inv_txfm_add_live(uint16_t *dst, size_t dst_len, uint32_t offset, int32_t stride, size_t columns,
+                                          size_t rows, int32_t *coeff, size_t coeff_len, size_t r, size_t w, size_t h,
+                                          size_t txtp, size_t depth);
 
 /* The lossless writer: from a 4x4 residual, row by row, the sixteen coefficients of WHT_WHT in buffer order, that of row y,
    column x at coeff[y + x * 4]. sgrifomel_inv_txfm_add with SGRIFOMEL_WHT_WHT, any eob from 0 up and the same depth adds
