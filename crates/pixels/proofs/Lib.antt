@@ -1,3 +1,4 @@
 -- Laws of the pixels.
 pub mod Pixels
 pub mod Shifts
+pub mod Above

@@ -4,12 +4,12 @@ use mathlib.Core.Bool.{false}
 use mathlib.Core.List.{List}
 use Prim.Native.Nat.{ℕ, _+_, _*_, _≤_, _<_}
 use lib.IntN.{ℤ, natAbs}
-use lib.ListN.{length}
+use lib.ListN.{getD, length}
 use Rattle.whole.specs.Numbers.{round2}
 use Rattle.whole.specs.Lists.{at}
 use Rattle.itx_1d.specs.declared.Kind.{Kind}
 use Rattle.strided.specs.declared.Spot.{Spot}
-use Rattle.strided.specs.Planes.{spot-outside}
+use Rattle.strided.specs.Planes.{begins, spot-outside}
 use Rattle.residual.specs.Blocks.{if-wht}
 
 -- what a column pass leaves, rounded as it is added: "v + 8 >> 4", and v itself for WHT_WHT
@@ -37,3 +37,17 @@ pub record Shifting (spot : Spot) (v : ℤ) (ps : List ℕ) : Type 0 where
   pub height : spot .rows ≤ 32
   pub inside : spot-outside (length ps) spot ≡ false
   pub small : natAbs v ≤ 16777216
+
+-- what looking for a pixel asks
+pub record Looking (spot : Spot) (w size : ℕ) : Type 0 where
+  pub height : spot .rows ≤ 32
+  pub width : w ≤ 32
+  pub columns-in : spot .columns ≤ w
+  pub inside : spot-outside size spot ≡ false
+
+-- no pixel of a row, and no visible one, is above top
+abbrev pub LowRow : ℕ → List ℕ → ℕ → ℕ → Type 0
+LowRow top ps from n = (x : ℕ) → x < n → getD ps (from + x) 0 ≤ top
+
+abbrev pub Low : ℕ → List ℕ → Spot → Type 0
+Low top ps spot = (y : ℕ) → y < spot .rows → LowRow top ps (begins spot y) (spot .columns)

@@ -1,5 +1,6 @@
 // Step 6 of the two-dimensional transform: what is added to the pixels of a plane.
 ghost use mathlib.Core.Path.{_≡_};
+ghost use mathlib.Core.Bool as Bool;
 ghost use Prim.Native.Nat.{_+_, _-_, _*_, _≤_, min};
 ghost use lib.IntN.{pos, natAbs};
 ghost use lib.ListN.{length};
@@ -7,7 +8,10 @@ ghost use Rattle.whole.specs.Numbers.{clip};
 ghost use Rattle.whole.specs.Lists.{at};
 ghost use Rattle.strided.specs.Planes.{begins};
 ghost use Rattle.pixels.specs.Adds.{add-pixel, add-row, add-rows};
+ghost use Rattle.coefs.specs.Coefs.{found};
+ghost use Rattle.pixels.specs.Above.{first-above};
 ghost use Rattle.pixels.specs.Inner as Inner;
+use coefs::Found;
 use intops::iclip;
 use itx_1d::Kind;
 use residual::leave;
@@ -116,4 +120,82 @@ pub fn add_block(ps: &mut [u16], spot: Spot, t: &[i32], step: usize, columns: Ki
         let from = stride.start(offset, y as u16);
         add_row(&mut *ps, from as usize, t, y * step, columns, n, top);
     }
+}
+
+// Whether one of the n pixels from `from` on is above top.
+fn any_above(ps: &[u16], from: usize, n: usize, top: u16) -> bool
+    requires { ⌜ from + n ≤ length (now ps) ⌝ }
+    ensures { λ r. ⌜ (r ≡ Bool.false → Inner.LowRow top (now (ps .entry)) from n) ⌝ }
+{
+    let mut hit = false;
+    for x in 0..n {
+        let p = ps[from + x];
+        hit = hit | (top < p);
+    }
+    hit
+}
+
+// Rows as wide as a block apart, whose loops LLVM takes without a test.
+fn any_in_row(ps: &[u16], from: usize, n: usize, top: u16) -> bool
+    requires { ⌜ from + n ≤ length (now ps) ⌝ }
+    ensures { λ r. ⌜ (r ≡ Bool.false → Inner.LowRow top (now (ps .entry)) from n) ⌝ }
+{
+    if n == 4 {
+        return any_above(ps, from, 4, top);
+    }
+    if n == 8 {
+        return any_above(ps, from, 8, top);
+    }
+    any_above(ps, from, n, top)
+}
+
+// Whether a visible pixel is above top.
+fn any_visible_above(ps: &[u16], spot: Spot, w: usize, top: u16) -> bool
+    requires { ⌜ Inner.Looking spot w (length (now ps)) ⌝ }
+    ensures { λ r. ⌜ (r ≡ Bool.false → Inner.Low top (now (ps .entry)) spot) ⌝ }
+{
+    let offset = spot.offset;
+    let stride = spot.stride;
+    let n = spot.columns;
+    let rows = spot.rows;
+    let mut hit = false;
+    for y in 0..rows {
+        let from = stride.start(offset, y as u16);
+        let more = any_in_row(ps, from as usize, n, top);
+        hit = hit | more;
+    }
+    hit
+}
+
+fn search_above(ps: &[u16], spot: Spot, w: usize, top: u16) -> Found
+    requires { ⌜ Inner.Looking spot w (length (now ps)) ⌝ }
+    ensures { λ r. ⌜ found r ≡ first-above top (now (ps .entry)) spot w ⌝ }
+{
+    let offset = spot.offset;
+    let stride = spot.stride;
+    let n = spot.columns;
+    let rows = spot.rows;
+    let mut place = Found::Nothing;
+    'rows: for y in 0..rows {
+        let from = stride.start(offset, y as u16) as usize;
+        for x in 0..n {
+            let p = ps[from + x];
+            if top < p {
+                place = Found::At(y * w + x);
+                break 'rows;
+            }
+        }
+    }
+    place
+}
+
+// Number 21: the first visible pixel above the maximum, row by row. Most blocks have none, and to know that takes no search.
+pub fn first_above(ps: &[u16], spot: Spot, w: usize, top: u16) -> Found
+    requires { ⌜ Inner.Looking spot w (length (now ps)) ⌝ }
+    ensures { λ r. ⌜ found r ≡ first-above top (now (ps .entry)) spot w ⌝ }
+{
+    if any_visible_above(ps, spot, w, top) {
+        return search_above(ps, spot, w, top);
+    }
+    Found::Nothing
 }
