@@ -10,7 +10,7 @@ use Rattle.levels.specs.declared.Plan.{Plan}
 use Rattle.levels.specs.Plans.{kinds-of}
 use Rattle.levels.proofs.Sizes.{plan-of}
 use Rattle.itx.specs.Calls.{Block, Call, plain, outcome}
-use Rattle.itx.specs.Demands.{Accepted, Alone, Small, whole, Announced, eob, rows, other-type, first-only}
+use Rattle.itx.specs.Demands.{Accepted, Alone, whole, Announced, eob, rows, other-type, first-only}
 use Rattle.itx.proofs.Sameness.{live-whole, plain-whole, zero-whole, with-eob, with-rows}
 use Rattle.itx.proofs.Shortcut.{dct-dct, shortcut-whole}
 
@@ -26,9 +26,9 @@ module _ (b : Block) (p : Plan) (d : Depth) (good : Accepted (plain (pos 0)) b p
   demand-3 (eob n) = plain-whole b p d n (with-eob b p d good (suc n))
   demand-3 (rows r g l k) = live-whole b p d r (with-rows b p d good r g l k)
   demand-3 (other-type e) = zero-whole b p d e good
-  demand-3 (first-only t alone small) =
-      subst (λ (q : Plan). Accepted (plain (pos 0)) b q d → Alone b q → Small b q d → outcome (plain (pos 0)) b ≡ whole b q d) (is-dct-dct t)
-      (λ g a s. shortcut-whole b (p .w) (p .h) (p .shift) d g a s) good alone small
+  demand-3 (first-only t alone) =
+      subst (λ (q : Plan). Accepted (plain (pos 0)) b q d → Alone b q → outcome (plain (pos 0)) b ≡ whole b q d) (is-dct-dct t)
+      (λ g a. shortcut-whole b (p .w) (p .h) (p .shift) d g a) good alone
 
   -- announcing more never changes the picture
   pub announcing-more : {call call′ : Call} → Announced b p d call → Announced b p d call′ → outcome call b ≡ outcome call′ b

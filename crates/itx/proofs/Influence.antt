@@ -1,4 +1,4 @@
--- Coefficients past w·h and pixels outside the block influence nothing: a call on other ones answers the same, and leaves the same in the block.
+-- Coefficients past w·h and pixels that are not visible influence nothing: a call on other ones answers the same, and leaves the same in the visible part.
 use mathlib.Core.Path.{_≡_, refl, sym, ap, ap₂, _∙_, subst, subst⁻¹}
 use mathlib.Core.Bool.{Bool, false, cond, _&&_, _||_}
 use mathlib.Core.List.{List}
@@ -24,6 +24,7 @@ use Rattle.strided.specs.Planes.{spot, spot-outside, lent, place}
 use Rattle.residual.specs.Blocks.{Way, entered, row, middle, column, residual, marked, way, shortcut}
 use Rattle.coefs.specs.Coefs.{nonzero}
 use Rattle.pixels.specs.Adds.{add-pixel}
+use Rattle.pixels.proofs.Above.{above-alike}
 use Rattle.itx.specs.Calls.{Block, Call, plain, live, stray, table, checked, verdict, short, live-rows, outcome-of, outcome}
 use Rattle.itx.specs.Demands.{Accepted}
 use Rattle.itx.proofs.Outcomes.{added, answer-is, pixel-rule}
@@ -62,7 +63,8 @@ abbrev pub other : Block → List ℤ → List ℕ → Block
 other b c ps = record { w = b .w; h = b .h; type = b .type; depth = b .depth; coefs = c; plane = lent ps (b .plane .view) }
 
 module _ (call : Call) (b : Block) (c : List ℤ) (ps : List ℕ) (alike : (i : ℕ) → i < b .w * b .h → at (b .coefs) i ≡ at c i)
-    (as-enough : ltb (length (b .coefs)) (b .w * b .h) ≡ ltb (length c) (b .w * b .h)) (as-many : length (b .plane .pixels) ≡ length ps) where
+    (as-enough : ltb (length (b .coefs)) (b .w * b .h) ≡ ltb (length c) (b .w * b .h)) (as-many : length (b .plane .pixels) ≡ length ps)
+    (as-visible : (y x : ℕ) → y < b .plane .view .rows → x < b .plane .view .columns → getD (b .plane .pixels) (place (b .plane) y x) 0 ≡ getD ps (place (b .plane) y x) 0) where
   -- the checks look at nothing else
   same-checks : (p : Plan) (d : Depth) → p .w ≡ b .w → p .h ≡ b .h → judged (table call b) (p, d) ≡ judged (table call (other b c ps)) (p, d)
   same-checks p d e f =
@@ -73,7 +75,8 @@ module _ (call : Call) (b : Block) (c : List ℤ) (ps : List ℕ) (alike : (i : 
       let inside = ap (λ (n : ℕ). when (spot-outside n (spot (b .plane .view)))) as-many in
       let ranged = first-ext (p .w * p .h) _ _ (λ i l. ap (λ (z : ℤ). outside z (low m) (high m)) (same i l)) in
       let covered = stray-alike call p (b .coefs) c same in
-      Checks.alike (table call b) (table call (other b c ps)) (p, d) (refl, refl, (refl, refl, (refl, enough, (refl, refl, (refl, refl, (refl, inside, (refl, ranged, (refl, covered, tt))))))))
+      let sound = above-alike (maximum d) (b .plane .pixels) ps (spot (b .plane .view)) (p .w) as-visible in
+      Checks.alike (table call b) (table call (other b c ps)) (p, d) (refl, refl, (refl, refl, (refl, enough, (refl, refl, (refl, refl, (refl, inside, (refl, ranged, (refl, covered, (refl, sound, tt)))))))))
 
   pub same-verdict : verdict call b ≡ verdict call (other b c ps)
   same-verdict = sized (plan (b .w) (b .h) (b .type)) refl
@@ -105,11 +108,11 @@ module _ (call : Call) (b : Block) (c : List ℤ) (ps : List ℕ) (alike : (i : 
     added-alike y x =
         ap₂ (λ (s l : ℤ). cond (short call p) s l) (ap (shortcut p) (same 0 (area-positive b p d call good))) (residual-alike (way p d) (b .coefs) c same (live-rows call p) y x)
 
-    -- a visible pixel that is the same before is the same afterwards
-    pub same-pixel : (y x : ℕ) → y < b .plane .view .rows → x < b .plane .view .columns → getD (b .plane .pixels) (place (b .plane) y x) 0 ≡ getD ps (place (b .plane) y x) 0
+    -- a visible pixel is the same afterwards
+    pub same-pixel : (y x : ℕ) → y < b .plane .view .rows → x < b .plane .view .columns
         → getD (outcome call b .pixels) (place (b .plane) y x) 0 ≡ getD (outcome call (other b c ps) .pixels) (place (b .plane) y x) 0
-    same-pixel y x l g e =
-        pixel-rule call b p d good y x l g ∙ (λ i. add-pixel (maximum d) (e i) (added-alike y x i)) ∙ sym (pixel-rule call (other b c ps) p d accepted-too y x l g)
+    same-pixel y x l g =
+        pixel-rule call b p d good y x l g ∙ (λ i. add-pixel (maximum d) (as-visible y x l g i) (added-alike y x i)) ∙ sym (pixel-rule call (other b c ps) p d accepted-too y x l g)
 
   -- any call
   pub same-answer : outcome call b .answer ≡ outcome call (other b c ps) .answer

@@ -114,7 +114,7 @@ module _ (b : Block) (p : Plan) (d : Depth) where
   module _ (good : Accepted (plain (pos 0)) b p d) where
     -- with any eob, and with any covering count
     pub with-eob : (n : ℕ) → Accepted (plain (pos n)) b p d
-    with-eob n = record { planned = good .planned; deep = good .deep; eob = refl; rows = refl; enough = good .enough; placed = good .placed; ranged = good .ranged; covered = good .covered }
+    with-eob n = record { planned = good .planned; deep = good .deep; eob = refl; rows = refl; enough = good .enough; placed = good .placed; ranged = good .ranged; covered = good .covered; sound = good .sound }
 
     pub with-rows : (r : ℕ) → 1 ≤ r → r ≤ p .h → Covers (p .w) (p .h) (b .coefs) r → Accepted (live r) b p d
     with-rows r g l k = record {
@@ -126,6 +126,7 @@ module _ (b : Block) (p : Plan) (d : Depth) where
       placed = good .placed;
       ranged = good .ranged;
       covered = strays-none (p .w) (p .h) (h-positive (plain (pos 0)) good) (b .coefs) r k;
+      sound = good .sound;
     }
 
     -- what is left of the table for a live-row call
@@ -134,7 +135,7 @@ module _ (b : Block) (p : Plan) (d : Depth) where
         let t = table (live r) b in
         ap (λ c. then (then c (with-depth (b .depth))) (judged t)) (good .planned) ∙ ap (λ c. then (then c (λ d. accept (p, d))) (judged t)) (good .deep)
         ∙ (λ j. unless-at (when (bad-rows (live r) (p .h))) 5 (unless-at (when (good .enough j)) 6 (unless-at (when (good .placed .seen j)) 20 (unless-at (when (good .placed .stride j)) 7 (unless-at (when (good .placed .inside j)) 8
-        (unless-at (good .ranged j) 9 (unless-at (stray (live r) p (b .coefs)) 10 (accept (p, d)))))))))
+        (unless-at (good .ranged j) 9 (unless-at (stray (live r) p (b .coefs)) 10 (unless-at (good .sound j) 21 (accept (p, d))))))))))
 
     -- a count in the bounds that does not cover is refused as stray, at the first stray's place
     pub stray-at : (r i : ℕ) → 1 ≤ r → r ≤ p .h → stray (live r) p (b .coefs) ≡ some i → outcome (live r) b ≡ outcome-of way (live r) b (refuse 10 i)

@@ -32,10 +32,11 @@ use Rattle.strided.proofs.Rows.{columns-in, rows-in, row-fits, rows-apart}
 use Rattle.residual.specs.Blocks.{Way, way, entered, row, middle, column, residual, marked, prescale, shortcut}
 use Rattle.pixels.specs.Adds.{add-pixel, add-rows}
 use Rattle.itx.specs.Calls.{Block, plain, by-shortcut, by-passes, outcome}
-use Rattle.itx.specs.Demands.{Accepted, Alone, Small, whole}
+use Rattle.itx.specs.Demands.{Accepted, Alone, whole}
 use Rattle.coefs.specs.Coefs.{Covers}
 use Rattle.itx.proofs.LiveRows.{prescale-zero}
 use Rattle.pixels.proofs.Pixels.{pixel-waits, rows-ext}
+use Rattle.pixels.proofs.Above.{none-above}
 use Rattle.itx.proofs.Sameness.{rows-whole, sides, area-positive, opened}
 
 -- the DCT_DCT plan of a size
@@ -151,8 +152,7 @@ cleared (suc n) (x ∷ c) g l z = ap (λ (s : List ℤ). pos 0 ∷ s) (sym (zero
 
 -- ---- the theorem
 
-module _ (b : Block) (w h s : ℕ) (d : Depth) (good : Accepted (plain (pos 0)) b (dct-dct w h s) d) (alone : Alone b (dct-dct w h s))
-    (small : Small b (dct-dct w h s) d) where
+module _ (b : Block) (w h s : ℕ) (d : Depth) (good : Accepted (plain (pos 0)) b (dct-dct w h s) d) (alone : Alone b (dct-dct w h s)) where
   abbrev plan-here : Plan
   plan-here = dct-dct w h s
 
@@ -167,6 +167,10 @@ module _ (b : Block) (w h s : ℕ) (d : Depth) (good : Accepted (plain (pos 0)) 
 
   abbrev v : View
   v = b .plane .view
+
+  -- by number 21
+  small : (y x : ℕ) → y < v .rows → x < v .columns → getD (b .plane .pixels) (place (b .plane) y x) 0 ≤ maximum d
+  small = none-above (maximum d) (b .plane .pixels) (spot v) w (columns-in w h v (good .placed .seen) .1) (good .sound)
 
   pixel-same : (y x : ℕ) → y < v .rows → x < v .columns
       → let q = getD (add-rows (maximum d) (b .plane .pixels) (begins (spot v)) (residual (way plan-here d) (b .coefs) 1) (v .columns) y) (place (b .plane) y x) 0 in

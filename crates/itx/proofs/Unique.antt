@@ -9,7 +9,7 @@ use Rattle.itx_1d.specs.Calls as Passes
 use Rattle.itx.specs.declared.Answer.{Answer}
 use Rattle.itx.specs.declared.Answer.the-variants.{Done, Refused}
 use Rattle.itx.specs.declared.Refusal.{Refusal}
-use Rattle.itx.specs.declared.Refusal.the-variants.{NoSize, NoType, NoDepth, NegativeEob, NoSuchRows, FewCoefficients, NotVisible, BadStride, RowOutside, OutOfRange, Stray}
+use Rattle.itx.specs.declared.Refusal.the-variants.{NoSize, NoType, NoDepth, NegativeEob, NoSuchRows, FewCoefficients, NotVisible, BadStride, RowOutside, OutOfRange, Stray, AboveMaximum}
 use Rattle.itx.specs.Answers.{number, place, answer-of}
 use Rattle.itx.specs.Calls.{Block, Call, Meets}
 use Rattle.itx.specs.Spec.{SpecMeets}
@@ -28,7 +28,8 @@ refusal n i =
     (cond (eqb n 7) BadStride
     (cond (eqb n 8) RowOutside
     (cond (eqb n 9) (OutOfRange i)
-    (Stray i))))))))))
+    (cond (eqb n 10) (Stray i)
+    (AboveMaximum i)))))))))))
 
 refusal-is : (r : Refusal) → refusal (number r) (place r) ≡ r
 unfolding refusal
@@ -43,6 +44,7 @@ refusal-is BadStride = refl
 refusal-is RowOutside = refl
 refusal-is (OutOfRange i) = refl
 refusal-is (Stray i) = refl
+refusal-is (AboveMaximum i) = refl
 
 back : Passes.Answer → Answer
 back a = cond (eqb (a .number) 0) (Done (a .mark)) (Refused (refusal (a .number) (a .place)))
@@ -59,6 +61,7 @@ not-zero BadStride = refl
 not-zero RowOutside = refl
 not-zero (OutOfRange i) = refl
 not-zero (Stray i) = refl
+not-zero (AboveMaximum i) = refl
 
 back-is : (r : Answer) → back (answer-of r) ≡ r
 unfolding back

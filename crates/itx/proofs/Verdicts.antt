@@ -14,7 +14,7 @@ module _ (call : Call) (b : Block) where
   accepting p d a =
       ap (λ c. then (then c (with-depth (b .depth))) (judged (table call b))) (a .planned)
       ∙ ap (λ c. then (then c (λ d. accept (p, d))) (judged (table call b))) (a .deep)
-      ∙ cleared (table call b) (p, d) (ap when (a .eob), (ap when (a .rows), (ap when (a .enough), (ap when (a .placed .seen), (ap when (a .placed .stride), (ap when (a .placed .inside), (a .ranged, (a .covered, tt))))))))
+      ∙ cleared (table call b) (p, d) (ap when (a .eob), (ap when (a .rows), (ap when (a .enough), (ap when (a .placed .seen), (ap when (a .placed .stride), (ap when (a .placed .inside), (a .ranged, (a .covered, (a .sound, tt)))))))))
 
   pub accepted-by : (p : Plan) (d : Depth) → verdict call b ≡ accept (p, d) → Accepted call b p d
   accepted-by p d e =
@@ -32,4 +32,5 @@ module _ (call : Call) (b : Block) where
         placed = record { seen = when-none _ (c .1 .1 .1 .0); stride = when-none _ (c .1 .1 .1 .1 .0); inside = when-none _ (c .1 .1 .1 .1 .1 .0) };
         ranged = c .1 .1 .1 .1 .1 .1 .0;
         covered = c .1 .1 .1 .1 .1 .1 .1 .0;
+        sound = c .1 .1 .1 .1 .1 .1 .1 .1 .0;
       }

@@ -1,11 +1,12 @@
 -- E5: a block of which only a part is visible is treated as the whole block on a padded plane, read back in the visible part; and where all of it is visible, document 01's text stands.
-use mathlib.Core.Path.{_≡_, refl, sym, ap, ap₂, _∙_, subst⁻¹}
-use mathlib.Core.Bool.{cond, false, _&&_, _||_}
+use mathlib.Core.Path.{_≡_, refl, sym, ap, _∙_, subst⁻¹}
+use mathlib.Core.Bool.{Bool, true, false, cond, _&&_, _||_}
 use mathlib.Core.List.{[], _∷_}
+use mathlib.Core.Option.{none}
 use Prim.Native.Nat.{ℕ, suc, _+_, _*_, _/_, _%_, _≤_, _<_}
-use native.Mathlib.Nat.{mul-le-mul-right, add-mul-div-right, add-mul-mod-self-right, div-eq-of-lt, mod-eq-of-lt}
+use native.Mathlib.Nat.{mul-le-mul-right}
 use native.Mathlib.Omega.{arith}
-use borrow.Author.Tests.{le-ltb, lt-ltb}
+use borrow.Author.Tests.{le-ltb, lt-ltb, ltb-true}
 use lib.Dec.{eqb, ltb}
 use lib.IntN.{ℤ, pos, natAbs}
 use lib.ListN.{getD, length}
@@ -19,8 +20,10 @@ use Rattle.levels.proofs.Sizes.{side-bounds, plan-of, plan-sided}
 use Rattle.strided.specs.declared.View.{View}
 use Rattle.strided.specs.Planes.{Plane, whole, in-pixels, bad-view, bad-stride, not-in, rows-outside, starts, spot, begins, place, Spotted}
 use Rattle.strided.proofs.Rows.{columns-in, rows-in, all-inside}
-use Rattle.pixels.specs.Adds.{add-pixel, add-rows}
-use Rattle.itx.specs.Calls.{Block, Call, bad-eob, bad-rows, range-line, stray-line, with-depth, table, verdict, outcome}
+use Rattle.pixels.specs.Adds.{add-pixel}
+use Rattle.pixels.specs.Above.{first-above}
+use Rattle.pixels.proofs.Above.{row-of, column-of, none-above, no-above}
+use Rattle.itx.specs.Calls.{Block, Call, bad-eob, bad-rows, range-line, stray-line, pixel-line, with-depth, table, verdict, outcome}
 use Rattle.itx.specs.Demands.{Accepted}
 use Rattle.itx.specs.Visible.{over, shown, padded, table-01, verdict-01, painted-01}
 use Rattle.itx.proofs.Outcomes.{answer-is, coefs-are, pixels-are, pixel-rule, added}
@@ -71,17 +74,28 @@ module _ (w h : ℕ) (wide : 1 ≤ w) (tall : 1 ≤ h) (a : Plane) where
         ∙ all-inside (w * h) 0 (pos w) w h (λ y l. (omega arith, omega (arith, mul-le-mul-right {m = suc y} {n = h} w l)));
   }
 
+  -- each of its pixels
+  padded-pixel : (y x : ℕ) → y < h → x < w → getD (padded a w h .pixels) (place (padded a w h) y x) 0 ≡ shown a y x
+  padded-pixel y x l m =
+      let below : y * w + x < w * h = omega (arith, mul-le-mul-right {m = suc y} {n = h} w l) in
+      ap (λ (j : ℕ). getD (padded a w h .pixels) (j + x) 0) (row-start w h y) ∙ tab-at (w * h) (λ i. shown a (i / w) (i % w)) 0 (y * w + x) below
+      ∙ (λ j. shown a (row-of w y x m j) (column-of w y x m j))
+
   -- it holds the visible pixels
   padded-holds : (y x : ℕ) → y < a .view .rows → x < a .view .columns → a .view .rows ≤ h → a .view .columns ≤ w
       → getD (a .pixels) (place a y x) 0 ≡ getD (padded a w h .pixels) (place (padded a w h) y x) 0
   padded-holds y x l m k n =
-      let i = y * w + x in
-      let below : i < w * h = omega (arith, mul-le-mul-right {m = suc y} {n = h} w (omega arith)) in
-      let turned : i ≡ x + y * w = omega arith in
-      let row : i / w ≡ y = ap (λ (j : ℕ). j / w) turned ∙ add-mul-div-right x y (omega arith) ∙ ap (λ (q : ℕ). q + y) (div-eq-of-lt (omega (arith, m, n))) ∙ omega arith in
-      let column : i % w ≡ x = ap (λ (j : ℕ). j % w) turned ∙ add-mul-mod-self-right x y w ∙ mod-eq-of-lt (omega (arith, m, n)) in
-      sym (ap (λ (j : ℕ). getD (padded a w h .pixels) (j + x) 0) (row-start w h y) ∙ tab-at (w * h) (λ i. shown a (i / w) (i % w)) 0 i below
-      ∙ (λ j. shown a (row j) (column j)) ∙ (λ j. cond (lt-ltb y (a .view .rows) l j && lt-ltb x (a .view .columns) m j) (getD (a .pixels) (place a y x) 0) 0))
+      sym (padded-pixel y x (omega (arith, l, k)) (omega (arith, m, n)) ∙ (λ j. cond (lt-ltb y (a .view .rows) l j && lt-ltb x (a .view .columns) m j) (getD (a .pixels) (place a y x) 0) 0))
+
+  -- what is shown is small where every visible pixel is
+  shown-small : (top : ℕ) → ((y x : ℕ) → y < a .view .rows → x < a .view .columns → getD (a .pixels) (place a y x) 0 ≤ top) → (y x : ℕ) → shown a y x ≤ top
+  shown-small top small y x = go (ltb y (a .view .rows)) (ltb x (a .view .columns)) refl refl
+    where
+      go : (s t : Bool) → ltb y (a .view .rows) ≡ s → ltb x (a .view .columns) ≡ t → cond (s && t) (getD (a .pixels) (place a y x) 0) 0 ≤ top
+      go true true e f = small y x (ltb-true y (a .view .rows) e) (ltb-true x (a .view .columns) f)
+      go true false e f = omega arith
+      go false true e f = omega arith
+      go false false e f = omega arith
 
 -- ---- the theorem
 
@@ -95,6 +109,14 @@ module _ (call : Call) (b : Block) (p : Plan) (d : Depth) (good : Accepted call 
   sides-positive : (1 ≤ p .w) × (1 ≤ p .h)
   sides-positive = let s = sides b p d call good in (omega (arith, side-bounds (p .w) (s .0) .0), omega (arith, side-bounds (p .h) (s .1) .0))
 
+  -- what is padded is 0, so 21 does not hold there either
+  padded-sound : first-above (maximum d) (pad .pixels) (spot (pad .view)) (p .w) ≡ none
+  padded-sound =
+      let visible = none-above (maximum d) (b .plane .pixels) (spot v) (p .w) (columns-in (p .w) (p .h) v (good .placed .seen) .1) (good .sound) in
+      no-above (maximum d) (pad .pixels) (spot (pad .view)) (p .w) (omega arith)
+      (λ y x l m. subst⁻¹ (λ (q : ℕ). q ≤ maximum d) (padded-pixel (p .w) (p .h) (sides-positive .0) (sides-positive .1) (b .plane) y x l m)
+      (shown-small (p .w) (p .h) (sides-positive .0) (sides-positive .1) (b .plane) (maximum d) visible y x))
+
   pub padded-accepted : Accepted call (over b pad) p d
   padded-accepted = record {
     planned = good .planned;
@@ -105,6 +127,7 @@ module _ (call : Call) (b : Block) (p : Plan) (d : Depth) (good : Accepted call 
     placed = padded-spotted (p .w) (p .h) (sides-positive .0) (sides-positive .1) (b .plane);
     ranged = good .ranged;
     covered = good .covered;
+    sound = padded-sound;
   }
 
   -- "equals the Rust run on a padded plane and read back in the visible part"
@@ -137,7 +160,7 @@ module _ (call : Call) (b : Block) (columns : b .plane .view .columns ≡ b .w) 
         let n = length (b .plane .pixels) in
         λ i. unless-at (when (bad-eob call)) 4 (unless-at (when (bad-rows call (p .h))) 5 (unless-at (when (ltb (length (b .coefs)) (p .w * p .h))) 6 (unless-at (when (seen i)) 20
         (unless-at (when (bad-stride (p .w) (u .stride .0))) 7 (unless-at (when (rows-outside n (u .offset) (in-pixels (u .stride .0)) (c i) (r i))) 8
-        (judged (range-line (b .coefs) ∷ stray-line call (b .coefs) ∷ []) (p, d)))))))
+        (judged (range-line (b .coefs) ∷ stray-line call (b .coefs) ∷ pixel-line (b .plane .pixels) u ∷ []) (p, d)))))))
 
   -- the same refusals
   pub verdict-whole : verdict call b ≡ verdict-01 call b

@@ -14,6 +14,7 @@ use Rattle.strided.specs.Planes.{Plane, spot, begins, spot-outside}
 use Rattle.strided.specs.declared.Spot.{Spot}
 use Rattle.strided.specs.declared.View.{View}
 use Rattle.pixels.specs.Adds.{add-rows}
+use Rattle.pixels.specs.Inner.{Looking}
 use Rattle.residual.specs.declared.Engine.{Engine}
 use Rattle.residual.specs.Blocks.{way-by, residual, marked, shortcut}
 use Rattle.residual.specs.Inner.{Sized, Coefs, Served}
@@ -22,7 +23,7 @@ use Rattle.itx.specs.Calls.{Block, with-adst}
 use Rattle.itx.specs.declared.Answer.{Answer}
 use Rattle.itx.specs.declared.Answer.the-variants.{Done, Refused}
 use Rattle.itx.specs.declared.Refusal.{Refusal}
-use Rattle.itx.specs.declared.Refusal.the-variants.{NoSize, NoType, NoDepth, NegativeEob, NoSuchRows, FewCoefficients, NotVisible, BadStride, RowOutside, OutOfRange, Stray}
+use Rattle.itx.specs.declared.Refusal.the-variants.{NoSize, NoType, NoDepth, NegativeEob, NoSuchRows, FewCoefficients, NotVisible, BadStride, RowOutside, OutOfRange, Stray, AboveMaximum}
 use Rattle.itx.specs.declared.Verdict.{Verdict}
 use Rattle.itx.specs.declared.Verdict.the-variants.{Go, At, Stop}
 
@@ -39,8 +40,9 @@ number BadStride = 7
 number RowOutside = 8
 number (OutOfRange i) = 9
 number (Stray i) = 10
+number (AboveMaximum i) = 21
 
--- "9 and 10 carry the place of the first offender .. others carry 0"
+-- "9 and 10 carry the place of the first offender .. others carry 0"; so does 21 (E6)
 abbrev pub place : Refusal → ℕ
 place NoSize = 0
 place NoType = 0
@@ -53,6 +55,7 @@ place BadStride = 0
 place RowOutside = 0
 place (OutOfRange i) = i
 place (Stray i) = i
+place (AboveMaximum i) = i
 
 abbrev pub answer-of : Answer → Passes.Answer
 answer-of (Done mark) = Passes.acceptance mark
@@ -86,6 +89,11 @@ abbrev pub RowsIn : ℕ → Verdict → Type 0
 RowsIn r (Go p d) = ⊥
 RowsIn r (At p d s) = r ≤ p .h
 RowsIn r (Stop x) = Unit {0}
+
+abbrev pub Looks : ℕ → Verdict → Type 0
+Looks size (Go p d) = ⊥
+Looks size (At p d s) = Looking s (p .w) size
+Looks size (Stop r) = Unit {0}
 
 -- a later check hands on what it was given, or stops
 abbrev pub Handed : Verdict → Verdict → Type 0

@@ -19,6 +19,7 @@ use Rattle.levels.specs.declared.Plan.{Plan}
 use Rattle.levels.specs.Plans.{plan}
 use Rattle.coefs.specs.Coefs.{in-dead-row}
 use Rattle.pixels.specs.Adds.{add-rows}
+use Rattle.pixels.specs.Above.{first-above}
 use Rattle.strided.specs.Planes.{Plane, spot, begins, bad-view, bad-stride, spot-outside}
 use Rattle.strided.specs.declared.View.{View}
 use Rattle.residual.specs.Blocks.{Way, residual, marked, way, shortcut}
@@ -79,6 +80,10 @@ range-line c = (9, λ a. out-of-range a c)
 abbrev pub stray-line : Call → List ℤ → Line (Plan × Depth)
 stray-line call c = (10, λ a. stray call (a .0) c)
 
+-- number 21 (E6): "a visible pixel above the depth's maximum .. with the first one's place"
+abbrev pub pixel-line : List ℕ → View → Line (Plan × Depth)
+pixel-line ps v = (21, λ a. first-above (maximum (a .1)) ps (spot v) (a .0 .w))
+
 -- number 3
 abbrev pub with-depth : ℕ → Plan → Check (Plan × Depth)
 with-depth n p = then (depth n) (λ d. accept (p, d))
@@ -87,11 +92,11 @@ abbrev pub with-adst : Plan → Bool
 with-adst p = is-adst (p .rows) || is-adst (p .columns)
 
 module _ (call : Call) (b : Block) where
-  -- numbers 4 to 10, with 20 "right after 6" (E5)
+  -- numbers 4 to 10, with 20 "right after 6" (E5) and 21 "after 10" (E6)
   abbrev pub table : List (Line (Plan × Depth))
   table =
       let c = b .coefs in
-      eob-line call ∷ rows-line call ∷ count-line (length c) ∷ plane-lines (length (b .plane .pixels)) (b .plane .view) ++ range-line c ∷ stray-line call c ∷ []
+      eob-line call ∷ rows-line call ∷ count-line (length c) ∷ plane-lines (length (b .plane .pixels)) (b .plane .view) ++ range-line c ∷ stray-line call c ∷ pixel-line (b .plane .pixels) (b .plane .view) ∷ []
 
   -- "Checked in this order; the first that applies is answered, and none otherwise."
   abbrev pub checked : Check Plan → Check (Plan × Depth)

@@ -5,7 +5,7 @@ use mathlib.Core.Option.{none}
 use Prim.Native.Nat.{ℕ, suc, _*_, _≤_, _<_}
 use lib.Dec.{ltb}
 use lib.IntN.{pos}
-use lib.ListN.{getD, length}
+use lib.ListN.{length}
 use Rattle.whole.specs.Lists.{at}
 use Rattle.whole.specs.Checks.{accept}
 use Rattle.bitdepth.specs.declared.Depth.{Depth}
@@ -13,11 +13,12 @@ use Rattle.bitdepth.specs.Depths.{depth, maximum}
 use Rattle.levels.specs.declared.Plan.{Plan}
 use Rattle.levels.specs.Plans.{plan}
 use Rattle.coefs.specs.Coefs.{Covers}
-use Rattle.strided.specs.Planes.{Spotted, place}
+use Rattle.strided.specs.Planes.{Spotted, spot}
+use Rattle.pixels.specs.Above.{first-above}
 use Rattle.residual.specs.Blocks.{way}
 use Rattle.itx.specs.Calls.{Block, Call, plain, live, bad-eob, bad-rows, out-of-range, stray, Outcome, short, by-passes}
 
--- none of the numbers 1 to 10 and 20 holds
+-- none of the numbers 1 to 10, 20 and 21 holds
 pub record Accepted (call : Call) (b : Block) (p : Plan) (d : Depth) : Type 0 where
   pub planned : plan (b .w) (b .h) (b .type) ≡ accept p
   pub deep : depth (b .depth) ≡ accept d
@@ -27,6 +28,7 @@ pub record Accepted (call : Call) (b : Block) (p : Plan) (d : Depth) : Type 0 wh
   pub placed : Spotted (length (b .plane .pixels)) (p .w) (p .h) (b .plane .view)
   pub ranged : out-of-range (p, d) (b .coefs) ≡ none
   pub covered : stray call p (b .coefs) ≡ none
+  pub sound : first-above (maximum d) (b .plane .pixels) (spot (b .plane .view)) (p .w) ≡ none
 
 module _ (b : Block) (p : Plan) where
   -- nothing is nonzero after the first coefficient
@@ -38,13 +40,9 @@ module _ (b : Block) (p : Plan) where
     abbrev pub whole : Outcome
     whole = by-passes b p d (way p d) (p .h)
 
-    -- no visible pixel exceeds the maximum
-    abbrev pub Small : Type 0
-    Small = (y x : ℕ) → y < b .plane .view .rows → x < b .plane .view .columns → getD (b .plane .pixels) (place (b .plane) y x) 0 ≤ maximum d
-
 -- what may be announced
 pub data Announced (b : Block) (p : Plan) (d : Depth) : Call → Type 0 where
   eob : (n : ℕ) → Announced b p d (plain (pos (suc n)))
   rows : (r : ℕ) → 1 ≤ r → r ≤ p .h → Covers (p .w) (p .h) (b .coefs) r → Announced b p d (live r)
   other-type : short (plain (pos 0)) p ≡ false → Announced b p d (plain (pos 0))
-  first-only : b .type ≡ 0 → Alone b p → Small b p d → Announced b p d (plain (pos 0))
+  first-only : b .type ≡ 0 → Alone b p → Announced b p d (plain (pos 0))

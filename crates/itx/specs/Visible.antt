@@ -13,7 +13,7 @@ use Rattle.levels.specs.Plans.{plan}
 use Rattle.strided.specs.declared.View.{View}
 use Rattle.strided.specs.Planes.{Plane, lent, whole, in-pixels, bad-stride, rows-outside, spot, begins, place}
 use Rattle.pixels.specs.Adds.{add-rows}
-use Rattle.itx.specs.Calls.{Block, Call, eob-line, rows-line, count-line, range-line, stray-line, with-depth}
+use Rattle.itx.specs.Calls.{Block, Call, eob-line, rows-line, count-line, range-line, stray-line, pixel-line, with-depth}
 
 -- the block on another plane
 abbrev pub over : Block → Plane → Block
@@ -27,13 +27,13 @@ shown a y x = cond (ltb y (a .view .rows) && ltb x (a .view .columns)) (getD (a 
 abbrev pub padded : Plane → ℕ → ℕ → Plane
 padded a w h = lent (tab (w * h) (λ i. shown a (i / w) (i % w))) (whole w h)
 
--- ---- document 01's text, without number 20
+-- ---- document 01's text, and number 21: without number 20
 
 module _ (call : Call) (b : Block) where
   abbrev pub v : View
   v = b .plane .view
 
-  -- numbers 4 to 10: 8 looks at h rows of w pixels
+  -- numbers 4 to 10 and 21: 8 looks at h rows of w pixels
   abbrev pub table-01 : List (Line (Plan × Depth))
   table-01 =
       eob-line call
@@ -43,6 +43,7 @@ module _ (call : Call) (b : Block) where
       ∷ (8, λ a. when (rows-outside (length (b .plane .pixels)) (v .offset) (in-pixels (v .stride .0)) (a .0 .w) (a .0 .h)))
       ∷ range-line (b .coefs)
       ∷ stray-line call (b .coefs)
+      ∷ pixel-line (b .plane .pixels) v
       ∷ []
 
   abbrev pub verdict-01 : Check (Plan × Depth)

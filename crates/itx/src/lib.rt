@@ -3,7 +3,8 @@ ghost use mathlib.Core.Path.{_≡_};
 ghost use mathlib.Core.Bool.{false};
 ghost use Prim.Native.Nat.{ℕ, _*_, _≤_};
 ghost use lib.ListN.{length};
-ghost use mathlib.Core.List.{List, [], _∷_};
+ghost use mathlib.Core.List.{[], _∷_};
+ghost use Rattle.strided.specs.declared.View.{View};
 ghost use Rattle.strided.specs.Planes.{lent};
 ghost use Rattle.whole.specs.Checks.{then, judged};
 ghost use Rattle.levels.specs.Plans as Plans;
@@ -13,7 +14,7 @@ ghost use Rattle.residual.specs.Blocks.{way-by};
 ghost use Rattle.itx.specs.Spec as Spec;
 ghost use Rattle.itx.specs.Calls as Calls;
 ghost use Rattle.itx.specs.Answers as Answers;
-ghost use Rattle.itx.specs.Answers.{answer-of, verdict-of, Asked, Lies, Enough, RowsIn, Handed, block, Ready, Passed, Shortened, Allowed, adst-planned};
+ghost use Rattle.itx.specs.Answers.{answer-of, verdict-of, Asked, Lies, Looks, Enough, RowsIn, Handed, block, Ready, Passed, Shortened, Allowed, adst-planned};
 use bitdepth::Depth;
 use bitdepth::DepthCheck;
 use bitdepth::Range;
@@ -26,6 +27,7 @@ use itx_1d::Kind;
 use levels::Decision;
 use levels::Plan;
 use pixels::add_block;
+use pixels::first_above;
 use pixels::shift_block;
 use residual::Engine;
 use residual::resolve;
@@ -35,7 +37,7 @@ use strided::Spot;
 use strided::SpotCheck;
 use strided::View;
 
-// Document 01, "Numbers of refusal", 1 to 10, and 20 of request E5, in the order of the checks.
+// Document 01, "Numbers of refusal", 1 to 10, 20 of request E5 and 21 of E6, in the order of the checks.
 pub enum Refusal {
     NoSize,
     NoType,
@@ -48,6 +50,7 @@ pub enum Refusal {
     RowOutside,
     OutOfRange(usize),
     Stray(usize),
+    AboveMaximum(usize),
 }
 
 // What a call answers: it is done, with the mark, or nothing was changed.
@@ -81,10 +84,11 @@ fn number_of(refusal: Refusal) -> u8
         Refusal::RowOutside => 8,
         Refusal::OutOfRange(_) => 9,
         Refusal::Stray(_) => 10,
+        Refusal::AboveMaximum(_) => 21,
     }
 }
 
-// Its place: that of the first offender, for numbers 9 and 10.
+// Its place: that of the first offender, for numbers 9, 10 and 21.
 pub fn place(answer: Answer) -> usize
     ensures { λ r. ⌜ r ≡ answer-of answer .place ⌝ }
 {
@@ -109,6 +113,7 @@ fn place_of(refusal: Refusal) -> usize
         Refusal::RowOutside => 0,
         Refusal::OutOfRange(i) => i,
         Refusal::Stray(i) => i,
+        Refusal::AboveMaximum(i) => i,
     }
 }
 
@@ -202,7 +207,7 @@ fn check_count(before: Verdict, count: usize) -> Verdict
 // Numbers 20, 7 and 8.
 fn check_plane(before: Verdict, size: usize, view: View) -> Verdict
     requires { ⌜ Asked before ⌝ }
-    ensures { λ r. ⌜ (verdict-of r ≡ then (verdict-of before) (judged (Calls.plane-lines size view))) × Lies view r ⌝ }
+    ensures { λ r. ⌜ (verdict-of r ≡ then (verdict-of before) (judged (Calls.plane-lines size view))) × Lies view r × Looks size r ⌝ }
 {
     let Verdict::Go(plan, depth) = before else {
         return before;
@@ -251,6 +256,23 @@ fn check_stray(before: Verdict, coeff: &[i32], r: usize) -> Verdict
         return before;
     };
     Verdict::Stop(Refusal::Stray(i))
+}
+
+// Number 21.
+fn check_pixels(before: Verdict, dst: &[u16]) -> Verdict
+    requires { ⌜ Looks (length (now dst)) before ⌝ }
+    ensures { λ r. ⌜ ((v : View) → Lies v before → verdict-of r ≡ then (verdict-of before) (judged (Calls.pixel-line (now (dst .entry)) v ∷ []))) × Handed before r ⌝ }
+{
+    let Verdict::At(plan, depth, spot) = before else {
+        return before;
+    };
+    let w = plan.w;
+    let top = depth.maximum();
+    let found = first_above(dst, spot, w, top);
+    let Found::At(i) = found else {
+        return before;
+    };
+    Verdict::Stop(Refusal::AboveMaximum(i))
 }
 
 // The long way of WHT_WHT, whose sixteen numbers ask for no larger block.
@@ -314,9 +336,9 @@ fn is_short(plan: Plan, eob: i32) -> bool
     true
 }
 
-// Numbers 1 to 9 and 20.
+// Numbers 1 to 9, 20 and 21.
 fn check_plain(
-    size: usize,
+    dst: &[u16],
     view: View,
     coeff: &[i32],
     eob: i32,
@@ -325,18 +347,19 @@ fn check_plain(
     txtp: usize,
     depth: usize,
 ) -> Verdict
-    ensures { λ r. ⌜ ((ps : List ℕ) → length ps ≡ size → verdict-of r ≡ Calls.verdict (Calls.plain eob) (block w h txtp depth (now (coeff .entry)) (lent ps view))) × Lies view r ⌝ }
+    ensures { λ r. ⌜ (verdict-of r ≡ Calls.verdict (Calls.plain eob) (block w h txtp depth (now (coeff .entry)) (lent (now (dst .entry)) view))) × Lies view r ⌝ }
 {
     let kind = check_kind(w, h, txtp, depth);
     let known = check_eob(kind, eob);
     let counted = check_count(known, coeff.len());
-    let placed = check_plane(counted, size, view);
-    check_range(placed, coeff)
+    let placed = check_plane(counted, dst.len(), view);
+    let ranged = check_range(placed, coeff);
+    check_pixels(ranged, dst)
 }
 
-// Numbers 1 to 3, 5 to 10 and 20.
+// Numbers 1 to 3, 5 to 10, 20 and 21.
 fn check_live(
-    size: usize,
+    dst: &[u16],
     view: View,
     coeff: &[i32],
     r: usize,
@@ -345,14 +368,15 @@ fn check_live(
     txtp: usize,
     depth: usize,
 ) -> Verdict
-    ensures { λ v. ⌜ ((ps : List ℕ) → length ps ≡ size → verdict-of v ≡ Calls.verdict (Calls.live r) (block w h txtp depth (now (coeff .entry)) (lent ps view))) × Lies view v ⌝ }
+    ensures { λ v. ⌜ (verdict-of v ≡ Calls.verdict (Calls.live r) (block w h txtp depth (now (coeff .entry)) (lent (now (dst .entry)) view))) × Lies view v ⌝ }
 {
     let kind = check_kind(w, h, txtp, depth);
     let known = check_rows(kind, r);
     let counted = check_count(known, coeff.len());
-    let placed = check_plane(counted, size, view);
+    let placed = check_plane(counted, dst.len(), view);
     let ranged = check_range(placed, coeff);
-    check_stray(ranged, coeff, r)
+    let covered = check_stray(ranged, coeff, r);
+    check_pixels(covered, dst)
 }
 
 // The shortcut: every visible pixel gets the same number.
@@ -382,7 +406,7 @@ fn plain(
     requires { ⌜ Allowed engine (Plans.plan w h txtp) ⌝ }
     ensures { λ r. ⌜ Calls.Leaves (Calls.outcome-of (way-by engine) (Calls.plain eob) (block w h txtp depth (now (coeff .entry)) (lent (now (dst .entry)) view)) (Calls.verdict (Calls.plain eob) (block w h txtp depth (now (coeff .entry)) (lent (now (dst .entry)) view)))) (answer-of r) (now (dst .exit)) (now (coeff .exit)) ⌝ }
 {
-    let checked = check_plain(dst.len(), view, &*coeff, eob, w, h, txtp, depth);
+    let checked = check_plain(&*dst, view, &*coeff, eob, w, h, txtp, depth);
     match checked {
         Verdict::Stop(refusal) => Answer::Refused(refusal),
         // Never: the check of the plane has found a place or stopped.
@@ -415,7 +439,7 @@ fn live(
     requires { ⌜ Allowed engine (Plans.plan w h txtp) ⌝ }
     ensures { λ a. ⌜ Calls.Leaves (Calls.outcome-of (way-by engine) (Calls.live r) (block w h txtp depth (now (coeff .entry)) (lent (now (dst .entry)) view)) (Calls.verdict (Calls.live r) (block w h txtp depth (now (coeff .entry)) (lent (now (dst .entry)) view)))) (answer-of a) (now (dst .exit)) (now (coeff .exit)) ⌝ }
 {
-    let checked = check_live(dst.len(), view, &*coeff, r, w, h, txtp, depth);
+    let checked = check_live(&*dst, view, &*coeff, r, w, h, txtp, depth);
     match checked {
         Verdict::Stop(refusal) => Answer::Refused(refusal),
         // Never: the check of the plane has found a place or stopped.

@@ -4,7 +4,7 @@ use mathlib.Core.Bool.{Bool, true, false, cond}
 use mathlib.Core.List.{List}
 use mathlib.Core.Option.{some}
 use Prim.Native.Nat.{ℕ, _*_, _≤_, _<_}
-use native.Mathlib.Nat.{mul-le-mul}
+use native.Mathlib.Nat.{mul-le-mul, mul-le-mul-right}
 use native.Mathlib.Omega.{arith}
 use lib.Dec.{eqb, ltb}
 use lib.IntN.{ℤ}
@@ -12,12 +12,14 @@ use lib.ListN.{length}
 use Rattle.whole.specs.Checks.{Check, accept, refuse, then, unless, unless-at, when, judged}
 use Rattle.whole.proofs.Checks.{open-then, open-unless}
 use Rattle.bitdepth.specs.declared.Depth.{Depth}
-use Rattle.bitdepth.specs.Depths.{depth}
+use Rattle.bitdepth.specs.Depths.{depth, maximum}
 use Rattle.levels.specs.declared.Plan.{Plan}
 use Rattle.levels.proofs.Types.{by-types}
 use Rattle.levels.specs.Plans.{among, shift-0, shift-1, shift-2, shift-of, kinds-of, with-kinds, with-shift, plan}
 use Rattle.levels.proofs.Sizes.{side-bounds, plan-sided}
-use Rattle.strided.specs.Planes.{bad-view, bad-stride, row-outside}
+use Rattle.strided.specs.Planes.{bad-view, bad-stride, row-outside, spot}
+use Rattle.strided.proofs.Rows.{rows-in}
+use Rattle.pixels.specs.Above.{first-above}
 use Rattle.itx_1d.specs.Calls.{Answer}
 use Rattle.itx.specs.Calls.{Block, Call, plain, live, bad-eob, bad-rows, out-of-range, stray, table, checked, verdict, spec-verdict, with-adst, short, outcome-of, by-shortcut, by-passes, live-rows, outcome, Meets}
 use Rattle.itx.specs.Av1.{av1-way}
@@ -47,27 +49,35 @@ small-plan w h type = small-then (shift-of w h) (with-shift w h type) (small-shi
 pub small-depth : (n : ℕ) → Small (depth n)
 small-depth n = small-cond (eqb n 8) _ _ tt (small-cond (eqb n 10) _ _ tt (small-cond (eqb n 12) _ _ tt (omega arith)))
 
-small-when : {A : Type 0} (t : Bool) (n : ℕ) (c : Check A) → Small c → Small (unless-at (when t) n c)
+small-when : {A : Type 0} (t : Bool) (n : ℕ) (c : Check A) → (t ≡ false → Small c) → Small (unless-at (when t) n c)
 small-when true n c s = omega arith
-small-when false n c s = s
+small-when false n c s = s refl
 
 stray-below : (call : Call) (p : Plan) (c : List ℤ) → p .w * p .h ≤ 1024 → (i : ℕ) → stray call p c ≡ some i → i < 1024
 stray-below (plain eob) p c l i e = let z : _≡_ {A = ℕ} 0 1 = cc in let f : ⊥ = omega arith in absurd f
 stray-below (live r) p c l i e = omega (arith, first-below (p .w * p .h) _ i e)
 
 module _ (call : Call) (b : Block) where
+  -- row·w + column is below h·w, since no more rows are visible
+  pixel-below : (p : Plan) (d : Depth) → bad-view (p .w) (p .h) (b .plane .view) ≡ false → p .w * p .h ≤ 1024
+      → (i : ℕ) → first-above (maximum d) (b .plane .pixels) (spot (b .plane .view)) (p .w) ≡ some i → i < 1024
+  pixel-below p d seen l i e =
+      omega (arith, first-below (b .plane .view .rows * p .w) _ i e, mul-le-mul-right {m = b .plane .view .rows} {n = p .h} (p .w) (rows-in (p .w) (p .h) (b .plane .view) seen .1))
+
   small-table : (p : Plan) (d : Depth) → p .w * p .h ≤ 1024 → Small (judged (table call b) (p, d))
   small-table p d l =
       let n = p .w * p .h in
       let c = b .coefs in
-      small-when (bad-eob call) 4 _
-      (small-when (bad-rows call (p .h)) 5 _
-      (small-when (ltb (length c) n) 6 _
-      (small-when (bad-view (p .w) (p .h) (b .plane .view)) 20 _
-      (small-when (bad-stride (p .w) (b .plane .view .stride .0)) 7 _
-      (small-when (row-outside (b .plane)) 8 _
-      (small-at (out-of-range (p, d) c) 9 _ (λ i e. omega (arith, first-below n _ i e))
-      (small-at (stray call p c) 10 (accept (p, d)) (stray-below call p c l) tt)))))))
+      let v = b .plane .view in
+      small-when (bad-eob call) 4 _ (λ _.
+      small-when (bad-rows call (p .h)) 5 _ (λ _.
+      small-when (ltb (length c) n) 6 _ (λ _.
+      small-when (bad-view (p .w) (p .h) v) 20 _ (λ seen.
+      small-when (bad-stride (p .w) (v .stride .0)) 7 _ (λ _.
+      small-when (row-outside (b .plane)) 8 _ (λ _.
+      small-at (out-of-range (p, d) c) 9 _ (λ i e. omega (arith, first-below n _ i e))
+      (small-at (stray call p c) 10 _ (stray-below call p c l)
+      (small-at (first-above (maximum d) (b .plane .pixels) (spot v) (p .w)) 21 (accept (p, d)) (pixel-below p d seen l) tt))))))))
 
   small-checked : (k : Check Plan) → Small k → ((p : Plan) → k ≡ accept p → p .w * p .h ≤ 1024) → Small (checked call b k)
   small-checked (refuse n i) s l = s

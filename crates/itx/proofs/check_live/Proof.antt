@@ -1,7 +1,6 @@
 -- `itx::check_live` meets its contract.
-use mathlib.Core.Path.{_≡_, sym, ap, _∙_}
+use mathlib.Core.Path.{_≡_, ap, _∙_}
 use mathlib.Core.List.{List, [], _∷_, _++_}
-use Prim.Native.Nat.{ℕ}
 use borrow.Author.Needs.{needs}
 use lib.ListN.{length}
 use Rattle.whole.specs.Checks.{Check, then, Line, judged}
@@ -9,8 +8,11 @@ use Rattle.whole.proofs.Checks.{further}
 use Rattle.bitdepth.specs.declared.Depth.{Depth}
 use Rattle.levels.specs.declared.Plan.{Plan}
 use Rattle.levels.specs.Plans.{plan}
-use Rattle.itx.specs.Calls.{live, rows-line, count-line, plane-lines, range-line, with-depth, stray-line}
-use Rattle.itx.specs.Answers.{verdict-of, Lies, Enough, RowsIn}
+use Rattle.itx.specs.Calls.{live, rows-line, count-line, plane-lines, range-line, stray-line, pixel-line, with-depth}
+use Rattle.itx.specs.Answers.{verdict-of, Lies, Looks, Enough, RowsIn}
+use Rattle.itx.specs.declared.Refusal.{Refusal}
+use Rattle.itx.specs.declared.Verdict.{Verdict}
+use Rattle.itx.specs.declared.Verdict.the-variants.{Stop}
 use Rattle.itx.proofs.Chain as Chain
 use Rattle.itx.proofs.Opening.{handed-on}
 use Rattle.itx.proofs.check_live.Statement.{statement}
@@ -25,43 +27,50 @@ own s = rows-line (live (s .args .r))
 abbrev counted : tie.Start → Line (Plan × Depth)
 counted s = count-line (length (s .args .coeff .now))
 
-abbrev lying : ℕ → tie.Start → List (Line (Plan × Depth))
-lying n s = plane-lines n (s .args .view)
+abbrev lying : tie.Start → List (Line (Plan × Depth))
+lying s = plane-lines (length (s .args .dst .now)) (s .args .view)
 
-rows-known : (o : tie.After-check-rows) → let s = o .before .before in verdict-of (o .check-rows .result) ≡ then (known s) (judged (own s ∷ []))
-rows-known o = let s = o .before .before in o .check-rows .ensures .0 ∙ ap (λ k. then k (judged (own s ∷ []))) (o .before .check-kind .ensures .0)
-
-plane-known : (o : tie.After-check-plane) → let s = o .before .before .before .before in verdict-of (o .check-plane .result) ≡ then (known s) (judged (own s ∷ counted s ∷ lying (s .args .size) s))
-plane-known o =
-    let s = o .before .before .before .before in
-    further (own s ∷ counted s ∷ []) (lying (s .args .size) s) (known s) (further (own s ∷ []) (counted s ∷ []) (known s) (rows-known (o .before .before)) (o .before .check-count .ensures .0)) (o .check-plane .ensures .0)
+rows-known : (o : tie.After-check-rows) → let s = o .before .before .before in verdict-of (o .check-rows .result) ≡ then (known s) (judged (own s ∷ []))
+rows-known o = let s = o .before .before .before in o .check-rows .ensures .0 ∙ ap (λ k. then k (judged (own s ∷ []))) (o .before .check-kind .ensures .0)
 
 module _ (o : tie.After-check-plane) where
   abbrev begun : tie.Start
-  begun = o .before .before .before .before
+  begun = o .before .before .before .before .before
+
+  plane-known : verdict-of (o .check-plane .result) ≡ then (known begun) (judged (own begun ∷ counted begun ∷ lying begun))
+  plane-known =
+      further (own begun ∷ counted begun ∷ []) (lying begun) (known begun) (further (own begun ∷ []) (counted begun ∷ []) (known begun) (rows-known (o .before .before)) (o .before .check-count .ensures .0)) (o .check-plane .ensures .0)
 
   enough : Enough (length (begun .args .coeff .now)) (o .check-plane .result)
-  enough =
-      let s = begun in
-      Chain.enough (known s) (lying (s .args .size) s) (s .args .view) (own s) (length (s .args .coeff .now)) (o .check-plane .result) (o .check-plane .ensures .1) (plane-known o)
+  enough = let s = begun in Chain.enough (known s) (lying s) (s .args .view) (own s) (length (s .args .coeff .now)) (o .check-plane .result) (o .check-plane .ensures .1) plane-known
 
   rows-in : RowsIn (begun .args .r) (o .check-plane .result)
-  rows-in =
-      let s = begun in
-      Chain.rows-in (known s) (counted s ∷ lying (s .args .size) s) (s .args .view) (s .args .r) (o .check-plane .result) (o .check-plane .ensures .1) (plane-known o)
+  rows-in = let s = begun in Chain.rows-in (known s) (counted s ∷ lying s) (s .args .view) (s .args .r) (o .check-plane .result) (o .check-plane .ensures .1) plane-known
+
+-- what the searches hand on
+module _ (F : Verdict → Type 0) (stops : (x : Refusal) → F (Stop x)) where
+  still : (r : tie.After-check-range) → F (r .before .check-plane .result) → F (r .check-range .result)
+  still r = handed-on F (r .before .check-plane .result) (r .check-range .result) stops (r .check-range .ensures .1)
+
+  still-2 : (t : tie.After-check-stray) → F (t .before .before .check-plane .result) → F (t .check-stray .result)
+  still-2 t f = handed-on F (t .before .check-range .result) (t .check-stray .result) stops (t .check-stray .ensures .1) (still (t .before) f)
 
 returns : tie.Need-returns
 returns c =
-    let o = c .before .before in
+    let t = c .before in
+    let r = t .before in
+    let o = r .before in
     let s = begun o in
-    let lies = Lies (s .args .view) in
+    let v = s .args .view in
     let ranged = range-line (s .args .coeff .now) in
     let covered = stray-line (live (s .args .r)) (s .args .coeff .now) in
-    let front = own s ∷ counted s ∷ lying (s .args .size) s in (
-      (λ ps e.
-          further (front ++ ranged ∷ []) (covered ∷ []) (known s) (further front (ranged ∷ []) (known s) (plane-known o) (c .before .check-range .ensures .0)) (c .check-stray .ensures .0)
-          ∙ ap (λ (n : ℕ). then (known s) (judged (own s ∷ counted s ∷ lying n s ++ ranged ∷ covered ∷ []))) (sym e)),
-      handed-on lies (c .before .check-range .result) (c .check-stray .result) (λ r. tt) (c .check-stray .ensures .1) (handed-on lies (o .check-plane .result) (c .before .check-range .result) (λ r. tt) (c .before .check-range .ensures .1) (o .check-plane .ensures .1)),
+    let sound = pixel-line (s .args .dst .now) v in
+    let front = own s ∷ counted s ∷ lying s in
+    let lies = still-2 (Lies v) (λ x. tt) t (o .check-plane .ensures .1) in (
+      further (front ++ ranged ∷ covered ∷ []) (sound ∷ []) (known s)
+          (further (front ++ ranged ∷ []) (covered ∷ []) (known s) (further front (ranged ∷ []) (known s) (plane-known o) (r .check-range .ensures .0)) (t .check-stray .ensures .0))
+          (c .check-pixels .ensures .0 v lies),
+      handed-on (Lies v) (t .check-stray .result) (c .check-pixels .result) (λ x. tt) (c .check-pixels .ensures .1) lies,
     )
 
 pub check-live-spec : {M : Type 1} → statement M
@@ -73,10 +82,6 @@ check-live-spec =
     (λ c κs. c .check-rows .ensures .1)
     (λ c κs. c .check-count .ensures .1)
     (λ c κs. enough c)
-    (λ c κs.
-    let o = c .before in
-    let n = length (begun o .args .coeff .now) in (
-      handed-on (Enough n) (o .check-plane .result) (c .check-range .result) (λ r. tt) (c .check-range .ensures .1) (enough o),
-      handed-on (RowsIn (begun o .args .r)) (o .check-plane .result) (c .check-range .result) (λ r. tt) (c .check-range .ensures .1) (rows-in o),
-    ))
+    (λ c κs. (still (Enough _) (λ x. tt) c (enough (c .before)), still (RowsIn _) (λ x. tt) c (rows-in (c .before))))
+    (λ c κs. still-2 (Looks _) (λ x. tt) c (c .before .before .check-plane .ensures .2))
     returns)

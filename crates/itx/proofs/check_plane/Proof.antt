@@ -1,5 +1,5 @@
 -- `itx::check_plane` meets its contract.
-use mathlib.Core.Path.{_≡_, refl, sym, ap, _∙_}
+use mathlib.Core.Path.{_≡_, refl, sym, ap, _∙_, subst, subst⁻¹}
 use mathlib.Core.Bool.{Bool, true, false}
 use Prim.Native.Nat.{ℕ}
 use borrow.Author.Needs.{needs}
@@ -10,9 +10,10 @@ use Rattle.strided.specs.declared.Spot.{Spot}
 use Rattle.strided.specs.declared.SpotCheck.{SpotCheck}
 use Rattle.strided.specs.declared.SpotCheck.the-variants.{Found}
 use Rattle.strided.specs.declared.View.{View}
-use Rattle.strided.specs.Planes.{bad-view, bad-stride, spot, spot-outside, spotted, spot-check}
-use Rattle.strided.proofs.Rows.{spotted-by}
-use Rattle.itx.specs.Answers.{verdict-of, Lies}
+use Rattle.strided.specs.Planes.{Spotted, bad-view, bad-stride, spot, spot-outside, spotted, spot-check}
+use Rattle.strided.proofs.Rows.{spotted-by, columns-in, rows-most}
+use Rattle.itx.specs.Answers.{verdict-of, Asked, Lies, Looks}
+use Rattle.pixels.specs.Inner.{Looking}
 use Rattle.itx.specs.Calls.{plane-lines}
 use Rattle.itx.proofs.Opening.{opened, stopped}
 use Rattle.itx.proofs.check_plane.Statement.{statement}
@@ -46,21 +47,32 @@ module _ (o : tie.After-spot) where
       ap (λ (k : Check Spot). then {C = Plan × Depth} k (λ s. accept (p, d))) (told e) ∙ by-view (begun .args .size) (begun .args .view) p d
       ∙ opened (begun .args .before) (judged (plane-lines (begun .args .size) (begun .args .view))) (ap verdict-of (o .before .before .before2 .given .1))
 
+  placed : {t : Spot} → o .spot .result ≡ Found t → Spotted (begun .args .size) (p .w) (p .h) (begun .args .view) × (t ≡ spot (begun .args .view))
+  placed {t} e = spotted-by (begun .args .size) (p .w) (p .h) (begun .args .view) t (sym (told e))
+
   lies : {t : Spot} → o .spot .result ≡ Found t → t ≡ spot (begun .args .view)
-  lies {t} e = spotted-by (begun .args .size) (p .w) (p .h) (begun .args .view) t (sym (told e)) .1
+  lies e = placed e .1
+
+  looks : {t : Spot} → o .spot .result ≡ Found t → Looking t (p .w) (begun .args .size)
+  looks e =
+      let k = placed e .0 in
+      let a = subst Asked (o .before .before .before2 .given .1) (begun .pre) in
+      let v = begun .args .view in
+      subst⁻¹ (λ (s : Spot). Looking s (p .w) (begun .args .size)) (placed e .1)
+      (record { height = rows-most (p .w) (p .h) v (k .seen) 32 (a .1); width = a .0; columns-in = columns-in (p .w) (p .h) v (k .seen) .1; inside = k .inside })
 
 pub check-plane-spec : {M : Type 1} → statement M
 check-plane-spec =
     tie.close
     (tie.spec
     (λ c. search needs)
-    (λ c. let s = c .before in stopped (s .args .before) _ (Lies (s .args .view)) (λ r. tt) (c .match .keys2) (s .pre))
+    (λ c. let s = c .before in let k = stopped (s .args .before) _ (λ v. Lies (s .args .view) v × Looks (s .args .size) v) (λ r. (tt, tt)) (c .match .keys2) (s .pre) in (k .0, k .1 .0, k .1 .1))
     (λ c κs. search needs)
     (λ c. search needs)
     (λ c. search needs)
     (λ c. search needs)
     (λ c. search needs)
-    (λ c. let o = c .before .before .before in (tested o (c .before .found .given .1), lies o (c .before .found .given .1)))
-    (λ c. (tested (c .before .before) (c .enum-told .given .1), tt))
-    (λ c. (tested (c .before .before) (c .enum-told2 .given .1), tt))
-    (λ c. (tested (c .before .before) (c .enum-told3 .given .1), tt)))
+    (λ c. let o = c .before .before .before in (tested o (c .before .found .given .1), lies o (c .before .found .given .1), looks o (c .before .found .given .1)))
+    (λ c. (tested (c .before .before) (c .enum-told .given .1), tt, tt))
+    (λ c. (tested (c .before .before) (c .enum-told2 .given .1), tt, tt))
+    (λ c. (tested (c .before .before) (c .enum-told3 .given .1), tt, tt)))

@@ -15,14 +15,14 @@ use Rattle.itx.proofs.live.Statement.{statement}
 use Rattle.itx.proofs.live.Tie as tie
 
 abbrev begun : tie.After-checked2 → tie.Start
-begun k = k .before .before .before .before .before
+begun k = k .before .before .before .before .before .before
 
 abbrev given : tie.Start → Block
 given s = block (s .args .w) (s .args .h) (s .args .txtp) (s .args .depth) (s .args .coeff .now) (lent (s .args .dst .now) (s .args .view))
 
 -- what the checks answered
-checked : (o : tie.After-check-live) → verdict (live (o .before .before .before .args .r)) (given (o .before .before .before)) ≡ verdict-of (o .check-live .result)
-checked o = sym (o .check-live .ensures .0 (o .before .before .before .args .dst .now) refl)
+checked : (o : tie.After-check-live) → verdict (live (o .before .before .before .before .args .r)) (given (o .before .before .before .before)) ≡ verdict-of (o .check-live .result)
+checked o = sym (o .check-live .ensures .0)
 
 -- what the acceptance told
 module _ (k : tie.After-checked2) where
@@ -47,14 +47,14 @@ module _ (k : tie.After-checked2) where
 refusal : tie.Need-returns
 refusal c =
     let o = c .before .before .before in
-    let s = o .before .before .before in
+    let s = o .before .before .before .before in
     Accepted.refusal-left (s .args .engine) (live (s .args .r)) (given s) (c .before .checked .given .0 .0) (checked o ∙ ap verdict-of (c .before .checked .given .1))
 
 -- the plane's check has found a place or stopped
 never : tie.Need-returns-2
 never c =
     let o = c .before .before in
-    absurd (subst (Lies (o .before .before .before .args .view)) (c .enum-told .given .1) (o .check-live .ensures .1))
+    absurd (subst (Lies (o .before .before .before .before .args .view)) (c .enum-told .given .1) (o .check-live .ensures .1))
 
 returns : tie.Need-returns-3
 returns c =
@@ -72,7 +72,9 @@ live-spec =
     (λ c. search needs)
     (λ c κs. let k = c .before .before .before in (ready k, live-inside (live (begun k .args .r)) (given (begun k)) (p k) (d k) (accepted k), served k))
     (λ c. search needs)
+    (λ c. search needs)
     refusal
+    (λ c. search needs)
     (λ c. search needs)
     never
     (λ c. search needs)

@@ -1,6 +1,6 @@
 -- `itx::plain` meets its contract.
 use mathlib.Core.Bool.{Bool}
-use mathlib.Core.Path.{_≡_, refl, sym, ap, _∙_, subst}
+use mathlib.Core.Path.{_≡_, sym, ap, _∙_, subst}
 use lib.IntN.{ℤ}
 use mir.Syntax.{w32}
 use mir.ValLaws.{toZ-ofZ}
@@ -19,16 +19,16 @@ use Rattle.itx.proofs.plain.Statement.{statement}
 use Rattle.itx.proofs.plain.Tie as tie
 
 abbrev begun : tie.After-checked2 → tie.Start
-begun k = k .before .before .before .before .before
+begun k = k .before .before .before .before .before .before
 
 abbrev given : tie.Start → Block
 given s = block (s .args .w) (s .args .h) (s .args .txtp) (s .args .depth) (s .args .coeff .now) (lent (s .args .dst .now) (s .args .view))
 
 -- what the checks answered
-checked : (o : tie.After-check-plain) → verdict (plain (o .before .before .before .args .eob)) (given (o .before .before .before)) ≡ verdict-of (o .check-plain .result)
+checked : (o : tie.After-check-plain) → verdict (plain (o .before .before .before .before .args .eob)) (given (o .before .before .before .before)) ≡ verdict-of (o .check-plain .result)
 checked o =
-    let s = o .before .before .before in
-    ap (λ (z : ℤ). verdict (plain z) (given s)) (sym (toZ-ofZ w32 (s .args .eob) (s .fits .eob))) ∙ sym (o .check-plain .ensures .0 (s .args .dst .now) refl)
+    let s = o .before .before .before .before in
+    ap (λ (z : ℤ). verdict (plain z) (given s)) (sym (toZ-ofZ w32 (s .args .eob) (s .fits .eob))) ∙ sym (o .check-plain .ensures .0)
 
 -- what the acceptance told
 module _ (k : tie.After-checked2) where
@@ -53,14 +53,14 @@ module _ (k : tie.After-checked2) where
 refusal : tie.Need-returns-2
 refusal c =
     let o = c .before .before .before in
-    let s = o .before .before .before in
+    let s = o .before .before .before .before in
     Accepted.refusal-left (s .args .engine) (plain (s .args .eob)) (given s) (c .before .checked .given .0 .0) (checked o ∙ ap verdict-of (c .before .checked .given .1))
 
 -- the plane's check has found a place or stopped
 never : tie.Need-returns-3
 never c =
     let o = c .before .before in
-    absurd (subst (Lies (o .before .before .before .args .view)) (c .enum-told .given .1) (o .check-plain .ensures .1))
+    absurd (subst (Lies (o .before .before .before .before .args .view)) (c .enum-told .given .1) (o .check-plain .ensures .1))
 
 -- which way it went
 way-is : (o : tie.After-is-short) {t : Bool} → o .is-short .result ≡ t → short (plain (begun (o .before .before) .args .eob)) (p (o .before .before)) ≡ t
@@ -104,7 +104,9 @@ plain-spec =
     (λ c κs. let k = c .before .before .before .before in (ready k .coefs .count, h-positive (given (begun k)) (p k) (d k) (plain (begun k .args .eob)) (accepted k)))
     (λ c κs. let k = c .before .before .before .before .before .before .before in (ready k, c .before .before .live-rows .ensures .0 .1, served k))
     (λ c. search needs)
+    (λ c. search needs)
     refusal
+    (λ c. search needs)
     (λ c. search needs)
     never
     (λ c. search needs)
