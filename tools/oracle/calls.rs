@@ -72,21 +72,23 @@ impl PassCall {
     }
 }
 
-/// What tells the plain call from the live-row call.
+/// The plain call has an eob, the live-row call a number of rows.
 #[derive(Clone, Copy, PartialEq, Eq, Debug)]
-pub enum Rows {
-    Eob(i32),
+pub enum Way {
+    Plain(i32),
     Live(usize),
 }
 
-/// A two-dimensional call. The stride counts bytes, the offset pixels.
+/// A two-dimensional call. The stride counts bytes, the offset pixels; columns and rows are those that are visible.
 #[derive(Clone, Debug)]
 pub struct BlockCall {
     pub plane: Vec<u16>,
     pub offset: u32,
     pub stride: i32,
+    pub columns: usize,
+    pub rows: usize,
     pub coeff: Vec<i32>,
-    pub rows: Rows,
+    pub way: Way,
     pub w: usize,
     pub h: usize,
     pub txtp: usize,
@@ -94,22 +96,23 @@ pub struct BlockCall {
 }
 
 impl BlockCall {
-    /// Numbers 1 to 10, in their order.
+    /// Numbers 1 to 10, and request E5's 20 after 6, in their order.
     fn refusal(&self) -> Option<Answer> {
         let number = |number: u64, holds: bool| holds.then(|| Answer::refused(number, 0));
         let (w, h) = (self.w, self.h);
         number(1, !cases::SIZES.contains(&(w, h)))
             .or_else(|| number(2, !cases::has_type(w, h, self.txtp)))
             .or_else(|| number(3, !cases::DEPTHS.contains(&self.depth)))
-            .or_else(|| number(4, matches!(self.rows, Rows::Eob(eob) if eob < 0)))
-            .or_else(|| number(5, matches!(self.rows, Rows::Live(r) if !(1..=h).contains(&r))))
+            .or_else(|| number(4, matches!(self.way, Way::Plain(eob) if eob < 0)))
+            .or_else(|| number(5, matches!(self.way, Way::Live(r) if !(1..=h).contains(&r))))
             .or_else(|| number(6, self.coeff.len() < w * h))
+            .or_else(|| number(20, !(1..=w).contains(&self.columns) || !(1..=h).contains(&self.rows)))
             .or_else(|| number(7, self.stride % 2 != 0 || self.pixel_stride().unsigned_abs() < w as u64))
-            .or_else(|| number(8, (0..h).any(|y| self.row(y).is_none())))
+            .or_else(|| number(8, (0..self.rows).any(|y| self.row(y).is_none())))
             .or_else(|| self.offender(9, |v, _| !cases::row_range(self.depth).contains(&v)))
-            .or_else(|| match self.rows {
-                Rows::Live(r) => self.offender(10, |v, y| y >= r && v != 0),
-                Rows::Eob(_) => None,
+            .or_else(|| match self.way {
+                Way::Live(r) => self.offender(10, |v, y| y >= r && v != 0),
+                Way::Plain(_) => None,
             })
     }
 
@@ -123,22 +126,66 @@ impl BlockCall {
         i64::from(self.stride) / 2
     }
 
-    /// Where row y starts, if it lies wholly inside the plane.
+    /// Where row y starts, if its visible part lies wholly inside the plane.
     fn row(&self, y: usize) -> Option<usize> {
         let start = i64::from(self.offset) + y as i64 * self.pixel_stride();
         let start = usize::try_from(start).ok()?;
-        (start + self.w <= self.plane.len()).then_some(start)
+        (start + self.columns <= self.plane.len()).then_some(start)
+    }
+
+    /// Where the visible rows of an accepted call start, the first first.
+    fn starts(&self) -> impl Iterator<Item = usize> + '_ {
+        (0..self.rows).filter_map(|y| self.row(y))
+    }
+
+    /// Where the first visible pixel stands and where the last one ends, also outside the plane, of any call.
+    pub fn reach(&self) -> (i128, i128) {
+        let first = i128::from(self.offset);
+        let last = first + (self.rows as i128 - 1) * i128::from(self.pixel_stride());
+        (first.min(last), first.max(last) + self.columns as i128)
+    }
+
+    pub fn is_whole(&self) -> bool {
+        (self.columns, self.rows) == (self.w, self.h)
+    }
+
+    /// The call with its visible rows w pixels apart in a plane of so many pixels, 0 where they are not.
+    fn laid_out(&self, pixels: usize) -> BlockCall {
+        let mut plane = vec![0; pixels];
+        for (to, at) in plane.chunks_mut(self.w).zip(self.starts()) {
+            to[..self.columns].copy_from_slice(&self.plane[at..][..self.columns]);
+        }
+        BlockCall { plane, offset: 0, stride: 2 * self.w as i32, ..self.clone() }
     }
 
     /// The call with nothing beyond its block, if it is smaller so.
     pub fn alone(&self) -> Option<BlockCall> {
-        if self.refusal().is_some() || self.plane.len() == self.w * self.h && self.stride > 0 {
+        if self.refusal().is_some() {
             return None;
         }
-        let rows = (0..self.h).filter_map(|y| self.row(y));
-        let plane = rows.flat_map(|at| &self.plane[at..][..self.w]).copied().collect();
+        let pixels = (self.rows - 1) * self.w + self.columns;
+        if self.plane.len() == pixels && self.stride == 2 * self.w as i32 {
+            return None;
+        }
         let coeff = self.coeff[..self.w * self.h].to_vec();
-        Some(BlockCall { plane, offset: 0, stride: 2 * self.w as i32, coeff, ..self.clone() })
+        Some(BlockCall { coeff, ..self.laid_out(pixels) })
+    }
+
+    /// An accepted call on a padded plane: all is visible. A call that is whole is that already.
+    pub fn padded(&self) -> BlockCall {
+        if self.is_whole() {
+            return self.clone();
+        }
+        BlockCall { columns: self.w, rows: self.h, ..self.laid_out(self.w * self.h) }
+    }
+
+    /// The plane with its visible pixels as they stand in `done`, the plane of the padded call after it.
+    pub fn read_back(&self, padded: &BlockCall, done: &[u16]) -> Vec<u16> {
+        let mut plane = self.plane.clone();
+        for (at, from) in self.starts().zip(padded.starts()) {
+            plane[at..][..self.columns].copy_from_slice(&done[from..][..self.columns]);
+        }
+        plane
     }
 
     /// The answer, the plane and the coefficients.
@@ -150,8 +197,7 @@ impl BlockCall {
             let bitdepth_max = cases::maximum(self.depth);
             return self.run(BitDepth16 { bitdepth_max });
         }
-        let mut starts = (0..self.h).filter_map(|y| self.row(y));
-        let fits = starts.all(|at| self.plane[at..][..self.w].iter().all(|&p| p <= 255));
+        let fits = self.starts().all(|at| self.plane[at..][..self.columns].iter().all(|&p| p <= 255));
         if fits {
             self.run(BitDepth8)
         } else {
@@ -159,28 +205,24 @@ impl BlockCall {
         }
     }
 
-    /// What the Rust does with the numbers at its own widths. Only the block is taken back from it: what lies beyond
-    /// may not fit those widths, and by document 01 stays.
+    /// What the Rust does with the numbers at its own widths, on a padded plane. Only the visible pixels are taken back
+    /// from it: what lies beyond may not fit those widths, and by document 01 stays.
     fn run<BD: BitDepth>(&self, bd: BD) -> (Answer, Vec<u16>, Vec<i32>) {
-        let wh = self.w * self.h;
+        let padded = self.padded();
         // A live-row call is held to the Rust's at eob 1, which is never its shortcut.
-        let eob = if let Rows::Eob(eob) = self.rows { eob } else { 1 };
+        let eob = if let Way::Plain(eob) = self.way { eob } else { 1 };
         let plan = Plan { w: self.w, h: self.h, txtp: self.txtp, eob };
-        let mut pixels: Vec<BD::Pixel> = self.plane.iter().map(|&p| BD::Pixel::from_prim(p.into())).collect();
-        let mut block: Vec<BD::Coef> = self.coeff[..wh].iter().map(|&v| BD::Coef::from_prim(v)).collect();
-        let (offset, stride) = (self.offset as usize, self.pixel_stride() as isize);
+        let mut pixels: Vec<BD::Pixel> = padded.plane.iter().map(|&p| BD::Pixel::from_prim(p.into())).collect();
+        let mut block: Vec<BD::Coef> = self.coeff[..self.w * self.h].iter().map(|&v| BD::Coef::from_prim(v)).collect();
+        let (offset, stride) = (padded.offset as usize, padded.pixel_stride() as isize);
         let mark = recorder::mark_of(|| itx::add_by_plan(&mut pixels, offset, stride, &mut block, plan, bd));
 
-        let (mut plane, mut coeff) = (self.plane.clone(), self.coeff.clone());
-        for at in (0..self.h).filter_map(|y| self.row(y)) {
-            for x in at..at + self.w {
-                let p: i32 = pixels[x].to_prim();
-                plane[x] = p as u16;
-            }
-        }
+        let wide = |p: BD::Pixel| -> i32 { p.to_prim() };
+        let done: Vec<u16> = pixels.into_iter().map(|p| wide(p) as u16).collect();
+        let mut coeff = self.coeff.clone();
         for (v, done) in coeff.iter_mut().zip(block) {
             *v = done.to_prim();
         }
-        (Answer::accepted(mark), plane, coeff)
+        (Answer::accepted(mark), self.read_back(&padded, &done), coeff)
     }
 }

@@ -1,6 +1,6 @@
 //! Sizes, types and ranges of document 01, and random inputs over all of them.
 
-use crate::calls::{BlockCall, PassCall, Rows};
+use crate::calls::{BlockCall, PassCall, Way};
 use crate::format::Record;
 use crate::itx::Kind;
 use std::ops::Range;
@@ -212,19 +212,38 @@ pub fn record(rng: &mut Rng, shape: Shape) -> Record {
     Record { w, h, txtp, depth, eob, coeff: coefficients(rng, shape), pixels: pixels(rng, w * h, depth) }
 }
 
-/// A record's block in a plane: a stride of either sign, with gaps, and any pixels and coefficients beyond the block.
+/// How many columns and rows are visible: half of the time all.
+fn visible(rng: &mut Rng, w: usize, h: usize) -> (usize, usize) {
+    let some = (1 + rng.below(w), 1 + rng.below(h));
+    rng.pick(&[(w, h), (w, h), (w, h), (w, some.1), (some.0, h), some])
+}
+
+/// The distance of two rows in pixels; for a single row any that a byte stride can say.
+fn distance(rng: &mut Rng, w: usize, rows: usize) -> usize {
+    let gap = rng.below(40);
+    let near = w + rng.pick(&[0, 0, 1, 2, gap]);
+    if rows > 1 {
+        return near;
+    }
+    let far = w + rng.below((1 << 30) - w);
+    rng.pick(&[near, near, far, (1 << 30) - 1])
+}
+
+/// A record's block in a plane: a stride of either sign, with gaps, any pixels beyond the block and where it is not
+/// visible, and any coefficients beyond it. The plane often starts or ends with a visible pixel.
 pub fn block_call(rng: &mut Rng, record: &Record) -> BlockCall {
     let (w, h) = (record.w, record.h);
-    let gap = rng.below(40);
-    let width = w + rng.pick(&[0, 0, 1, 2, gap]);
-    let (before, after) = (rng.below(20), rng.below(20));
-    let span = (h - 1) * width;
+    let (columns, rows) = visible(rng, w, h);
+    let width = distance(rng, w, rows);
+    let some = [rng.below(20), rng.below(20)];
+    let [before, after] = some.map(|n| rng.pick(&[0, n]));
+    let span = (rows - 1) * width;
     let down = rng.below(2) == 0;
     let offset = if down { before } else { before + span };
-    let mut plane: Vec<u16> = (0..before + span + w + after).map(|_| rng.word() as u16).collect();
-    for y in 0..h {
+    let mut plane: Vec<u16> = (0..before + span + columns + after).map(|_| rng.word() as u16).collect();
+    for y in 0..rows {
         let at = if down { offset + y * width } else { offset - y * width };
-        plane[at..at + w].copy_from_slice(&record.pixels[y * w..][..w]);
+        plane[at..][..columns].copy_from_slice(&record.pixels[y * w..][..columns]);
     }
     let mut coeff = record.coeff.clone();
     coeff.extend((0..rng.below(9)).map(|_| rng.any_i32()));
@@ -232,8 +251,10 @@ pub fn block_call(rng: &mut Rng, record: &Record) -> BlockCall {
         plane,
         offset: offset as u32,
         stride: if down { 2 * width as i32 } else { -2 * width as i32 },
+        columns,
+        rows,
         coeff,
-        rows: Rows::Eob(record.eob),
+        way: Way::Plain(record.eob),
         w,
         h,
         txtp: record.txtp,
@@ -245,15 +266,15 @@ pub fn block_call(rng: &mut Rng, record: &Record) -> BlockCall {
 pub fn damage_block(rng: &mut Rng, call: &mut BlockCall) {
     let small = rng.below(70);
     let at = rng.below(call.coeff.len().max(1));
-    match rng.below(11) {
+    match rng.below(14) {
         0 => call.w = rng.pick(&[0, 4, 8, 16, 32, 64, small, usize::MAX, 1 << 62]),
         1 => call.h = rng.pick(&[0, 4, 8, 16, 32, 64, small, usize::MAX, 1 << 62]),
         2 => call.txtp = rng.pick(&[small % 20, 256, usize::MAX]),
         3 => call.depth = rng.pick(&[small % 20, 264, usize::MAX]),
         4 => {
-            call.rows = match call.rows {
-                Rows::Eob(_) => Rows::Eob(rng.pick(&[-1, i32::MIN])),
-                Rows::Live(_) => Rows::Live(rng.pick(&[0, call.h, call.h.wrapping_add(1), 1, usize::MAX])),
+            call.way = match call.way {
+                Way::Plain(_) => Way::Plain(rng.pick(&[-1, i32::MIN])),
+                Way::Live(_) => Way::Live(rng.pick(&[0, call.h, call.h.wrapping_add(1), 1, usize::MAX])),
             }
         }
         5 => call.coeff.truncate(call.w.saturating_mul(call.h).saturating_sub(small % 2)),
@@ -268,6 +289,26 @@ pub fn damage_block(rng: &mut Rng, call: &mut BlockCall) {
             let value = rng.pick(&[m, -m - 1, i32::MAX, i32::MIN, m - 1, -m]);
             call.coeff.get_mut(at).into_iter().for_each(|v| *v = value);
         }
+        10 => call.columns = visible_damaged(rng, call.columns, call.w),
+        11 => call.rows = visible_damaged(rng, call.rows, call.h),
+        12 => damage_ends(rng, call),
         _ => call.coeff.get_mut(at).into_iter().for_each(|v| *v = 1),
     }
+}
+
+/// A number of visible columns or rows of a side, where there were so many.
+fn visible_damaged(rng: &mut Rng, visible: usize, side: usize) -> usize {
+    let more = visible.wrapping_add(1);
+    rng.pick(&[0, side, side.wrapping_add(1), more, visible.wrapping_sub(1), usize::MAX, 1 << 62, 1 << 32])
+}
+
+/// The visible pixels moved to one end of the plane, or the plane's end to theirs; half of the time one pixel too far.
+fn damage_ends(rng: &mut Rng, call: &mut BlockCall) {
+    let ((first, end), len) = (call.reach(), call.plane.len() as i128);
+    let over = rng.below(2) as i128;
+    let by = rng.pick(&[-first - over, len - end + over, 0]);
+    if by == 0 {
+        usize::try_from(end - over).into_iter().for_each(|len| call.plane.truncate(len));
+    }
+    call.offset = u32::try_from(i128::from(call.offset) + by).unwrap_or(call.offset);
 }

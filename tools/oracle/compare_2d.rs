@@ -1,21 +1,22 @@
 //! Compares the exported calls with the Rust: compare_2d [COUNT [SEED]], COUNT blocks for each size, type and depth, each
-//! by the plain call and by the live-row call with every r that covers it.
+//! by the plain call and by the live-row call with every r that covers it, half of them with some pixels not visible.
 
-use kernels::calls::{Answer, BlockCall, Rows};
+use kernels::calls::{Answer, BlockCall, Way};
 use kernels::cases::{self, Rng, Shape};
 use kernels::compare::{count_and_rng, first_difference, hold, nearer, places_of, Case};
 use kernels::exports::{sgrifomel_inv_txfm_add, sgrifomel_inv_txfm_add_live};
+use std::collections::BTreeMap;
 
 fn got(call: &BlockCall) -> (Answer, Vec<u16>, Vec<i32>) {
     let (mut plane, mut coeff) = (call.plane.clone(), call.coeff.clone());
-    let &BlockCall { offset, stride, w, h, txtp, depth, .. } = call;
+    let &BlockCall { offset: at, stride, columns: x, rows: y, w, h, txtp: t, depth: d, .. } = call;
     let (dst, dst_len) = (plane.as_mut_ptr(), plane.len());
     let (c, c_len) = (coeff.as_mut_ptr(), coeff.len());
     // SAFETY: each pointer and length are those of one vector; the calls ask for nothing else.
     let word = unsafe {
-        match call.rows {
-            Rows::Eob(eob) => sgrifomel_inv_txfm_add(dst, dst_len, offset, stride, c, c_len, eob, w, h, txtp, depth),
-            Rows::Live(r) => sgrifomel_inv_txfm_add_live(dst, dst_len, offset, stride, c, c_len, r, w, h, txtp, depth),
+        match call.way {
+            Way::Plain(eob) => sgrifomel_inv_txfm_add(dst, dst_len, at, stride, x, y, c, c_len, eob, w, h, t, d),
+            Way::Live(r) => sgrifomel_inv_txfm_add_live(dst, dst_len, at, stride, x, y, c, c_len, r, w, h, t, d),
         }
     };
     (Answer::unpacked(word), plane, coeff)
@@ -47,23 +48,26 @@ impl Case for Compared {
     }
 
     fn places(&self) -> usize {
-        2 + self.0.coeff.len() + self.0.plane.len()
+        4 + self.0.coeff.len() + self.0.plane.len()
     }
 
-    /// Place 0 is eob or r, place 1 what lies beyond the block; then come the coefficients and the pixels.
+    /// Place 0 is eob or r, 1 what lies beyond the block, 2 the visible columns, 3 the visible rows; then come the
+    /// coefficients and the pixels.
     fn smaller(&self, place: usize) -> Vec<Self> {
         let call = &self.0;
-        let pixels_from = 2 + call.coeff.len();
-        match (place, call.rows) {
-            (0, Rows::Eob(eob)) => self.each(nearer(eob), |c, eob| c.rows = Rows::Eob(eob)),
-            (0, Rows::Live(r)) => self.each(1..r.min(33), |c, r| c.rows = Rows::Live(r)),
+        let pixels_from = 4 + call.coeff.len();
+        match (place, call.way) {
+            (0, Way::Plain(eob)) => self.each(nearer(eob), |c, eob| c.way = Way::Plain(eob)),
+            (0, Way::Live(r)) => self.each(1..r.min(33), |c, r| c.way = Way::Live(r)),
             (1, _) => {
                 let shorter_coeff = self.each(call.coeff.len().checked_sub(1), |c, len| c.coeff.truncate(len));
                 let shorter_plane = self.each(call.plane.len().checked_sub(1), |c, len| c.plane.truncate(len));
                 call.alone().map(Compared).into_iter().chain(shorter_coeff).chain(shorter_plane).collect()
             }
+            (2, _) => self.each(1..call.columns.min(33), |c, columns| c.columns = columns),
+            (3, _) => self.each(1..call.rows.min(33), |c, rows| c.rows = rows),
             _ if place < pixels_from => {
-                let at = place - 2;
+                let at = place - 4;
                 self.each(nearer(call.coeff[at]), |c, v| c.coeff[at] = v)
             }
             _ => {
@@ -74,29 +78,50 @@ impl Case for Compared {
     }
 
     fn describe(&self) -> String {
-        let BlockCall { plane, offset, stride, coeff, rows, w, h, txtp, depth } = &self.0;
+        let BlockCall { plane, offset, stride, columns, rows, coeff, way, w, h, txtp, depth } = &self.0;
         let (plane, coeff) = (places_of(plane), places_of(coeff));
         format!(
-            "{w}x{h}, type {txtp}, depth {depth}, {rows:?}, offset {offset}, byte stride {stride}\n\
-             plane: {plane}\ncoefficients: {coeff}"
+            "{w}x{h}, type {txtp}, depth {depth}, {way:?}, offset {offset}, byte stride {stride}, \
+             {columns} columns and {rows} rows visible\nplane: {plane}\ncoefficients: {coeff}"
         )
     }
 }
 
+/// How many calls were made, and of them: accepted with not all visible, marked, refused by each number.
 #[derive(Default)]
 struct Counts {
     calls: usize,
+    cropped: usize,
     marked: usize,
-    refused: usize,
+    refused: BTreeMap<u64, usize>,
 }
 
 impl Counts {
     fn hold(&mut self, call: BlockCall) {
         let (answer, ..) = call.wanted();
         self.calls += 1;
-        self.marked += usize::from(answer.mark);
-        self.refused += usize::from(answer.number != 0);
+        if answer.number == 0 {
+            self.cropped += usize::from(!call.is_whole());
+            self.marked += usize::from(answer.mark);
+        } else {
+            *self.refused.entry(answer.number).or_default() += 1;
+        }
         hold(&Compared(call));
+    }
+
+    fn add(&mut self, other: Counts) {
+        self.calls += other.calls;
+        self.cropped += other.cropped;
+        self.marked += other.marked;
+        for (number, count) in other.refused {
+            *self.refused.entry(number).or_default() += count;
+        }
+    }
+
+    fn report(&self, of: &str) {
+        let Counts { calls, cropped, marked, refused } = self;
+        let refused: usize = refused.values().sum();
+        println!("{of}: {calls} calls the same, {cropped} cropped, {marked} marked, {refused} refused");
     }
 }
 
@@ -109,10 +134,10 @@ fn compare_block(rng: &mut Rng, shape: Shape, counts: &mut Counts) {
     let least = live_rows.unwrap_or(1);
     counts.hold(plain.clone());
     for r in least..=h {
-        counts.hold(BlockCall { rows: Rows::Live(r), ..plain.clone() });
+        counts.hold(BlockCall { way: Way::Live(r), ..plain.clone() });
     }
-    for rows in [plain.rows, Rows::Live(least + rng.below(h + 1 - least))] {
-        let mut call = BlockCall { rows, ..plain.clone() };
+    for way in [plain.way, Way::Live(least + rng.below(h + 1 - least))] {
+        let mut call = BlockCall { way, ..plain.clone() };
         // Twice now and then: the first number that applies is the answer.
         for _ in 0..1 + rng.below(2) {
             cases::damage_block(rng, &mut call);
@@ -123,12 +148,17 @@ fn compare_block(rng: &mut Rng, shape: Shape, counts: &mut Counts) {
 
 fn main() {
     let (count, mut rng) = count_and_rng(400);
+    let mut all = Counts::default();
     for shape in cases::block_shapes() {
         let mut counts = Counts::default();
         for _ in 0..count {
             compare_block(&mut rng, shape, &mut counts);
         }
-        let (Shape { w, h, txtp, depth }, Counts { calls, marked, refused }) = (shape, counts);
-        println!("{w}x{h}, type {txtp}, depth {depth}: {calls} calls the same, {marked} marked, {refused} refused");
+        let Shape { w, h, txtp, depth } = shape;
+        counts.report(&format!("{w}x{h}, type {txtp}, depth {depth}"));
+        all.add(counts);
     }
+    all.report("in all");
+    let words: Vec<String> = all.refused.iter().map(|(number, count)| format!("{number}: {count}")).collect();
+    println!("refused by number: {}", words.join(", "));
 }

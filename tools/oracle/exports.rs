@@ -29,35 +29,30 @@ extern "C" {
     pub fn sgrifomel_inv_wht4_1d(c: *mut i32, len: usize, stride: usize) -> u64;
 }
 
-extern "C" {
-    pub fn sgrifomel_inv_txfm_add(
-        dst: *mut u16,
-        dst_len: usize,
-        offset: u32,
-        stride_bytes: i32,
-        coeff: *mut i32,
-        coeff_len: usize,
-        eob: i32,
-        w: usize,
-        h: usize,
-        txtp: usize,
-        depth: usize,
-    ) -> u64;
-
-    pub fn sgrifomel_inv_txfm_add_live(
-        dst: *mut u16,
-        dst_len: usize,
-        offset: u32,
-        stride_bytes: i32,
-        coeff: *mut i32,
-        coeff_len: usize,
-        r: usize,
-        w: usize,
-        h: usize,
-        txtp: usize,
-        depth: usize,
-    ) -> u64;
+macro_rules! blocks {
+    ($last:ident: $number:ty, $($name:ident),*) => {
+        extern "C" {
+            $(pub fn $name(
+                dst: *mut u16,
+                dst_len: usize,
+                offset: u32,
+                stride_bytes: i32,
+                columns: usize,
+                rows: usize,
+                coeff: *mut i32,
+                coeff_len: usize,
+                $last: $number,
+                w: usize,
+                h: usize,
+                txtp: usize,
+                depth: usize,
+            ) -> u64;)*
+        }
+    };
 }
+
+blocks!(eob: i32, sgrifomel_inv_txfm_add, sgrifomel_spec_inv_txfm_add);
+blocks!(r: usize, sgrifomel_inv_txfm_add_live, sgrifomel_spec_inv_txfm_add_live);
 
 extern "C" {
     pub fn sgrifomel_fwd_wht4x4(

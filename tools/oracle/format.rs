@@ -1,6 +1,6 @@
 //! The block files of request E1, read and written; a refusal is its number.
 
-use crate::calls::{BlockCall, Rows};
+use crate::calls::{BlockCall, Way};
 use crate::cases;
 
 pub struct Record {
@@ -14,14 +14,16 @@ pub struct Record {
 }
 
 impl Record {
-    /// The plain call on the record's own pixels.
+    /// The plain call on the record's own pixels, all of them visible.
     pub fn call(&self) -> BlockCall {
         BlockCall {
             plane: self.pixels.clone(),
             offset: 0,
             stride: 2 * self.w as i32,
+            columns: self.w,
+            rows: self.h,
             coeff: self.coeff.clone(),
-            rows: Rows::Eob(self.eob),
+            way: Way::Plain(self.eob),
             w: self.w,
             h: self.h,
             txtp: self.txtp,

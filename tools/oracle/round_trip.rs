@@ -1,7 +1,7 @@
 //! Writes random residuals by the exported writer and takes them back by the Rust's inverse and by the exported plain call:
 //! round_trip [COUNT [SEED]], COUNT residuals for each depth. Refusals are held to request E10, written out here.
 
-use kernels::calls::{Answer, BlockCall, Rows};
+use kernels::calls::{Answer, BlockCall, Way};
 use kernels::cases::{self, Rng};
 use kernels::compare::{count_and_rng, first_difference, hold, nearer, Case};
 use kernels::exports::{sgrifomel_fwd_wht4x4, sgrifomel_inv_txfm_add};
@@ -45,17 +45,17 @@ impl Residual {
     /// The way back: p + r by the Rust, and by the exported call.
     fn back(&self, coeff: Vec<i32>) -> Option<String> {
         let sum: Vec<u16> = self.pixels.iter().zip(&self.r).map(|(&p, &r)| (i32::from(p) + r) as u16).collect();
-        let (plane, rows, depth) = (self.pixels.clone(), Rows::Eob(self.eob), self.depth);
-        let call = BlockCall { plane, offset: 0, stride: 8, coeff, rows, w: 4, h: 4, txtp: WHT_WHT, depth };
+        let (plane, way, depth) = (self.pixels.clone(), Way::Plain(self.eob), self.depth);
+        let (columns, rows, w, h, txtp) = (4, 4, 4, 4, WHT_WHT);
+        let call = BlockCall { plane, offset: 0, stride: 8, columns, rows, coeff, way, w, h, txtp, depth };
         let (answer, by_rust, _) = call.wanted();
         if answer != Answer::accepted(false) {
             return Some(format!("the plain call is to answer {answer:?}"));
         }
         let BlockCall { mut plane, mut coeff, .. } = call;
-        let (dst, c) = (plane.as_mut_ptr(), coeff.as_mut_ptr());
+        let (dst, c, len, eob) = (plane.as_mut_ptr(), coeff.as_mut_ptr(), coeff.len(), self.eob);
         // SAFETY: as above.
-        let word =
-            unsafe { sgrifomel_inv_txfm_add(dst, 16, 0, 8, c, coeff.len(), self.eob, 4, 4, WHT_WHT, self.depth) };
+        let word = unsafe { sgrifomel_inv_txfm_add(dst, 16, 0, 8, columns, rows, c, len, eob, w, h, txtp, depth) };
         if word != 0 {
             return Some(format!("the plain call answers {:?}", Answer::unpacked(word)));
         }
