@@ -36,6 +36,10 @@ pub fn has_type(w: usize, h: usize, txtp: usize) -> bool {
     }
 }
 
+pub fn has_adst(txtp: usize) -> bool {
+    matches!(txtp, 1..=8 | 12..=15)
+}
+
 fn row_limit(depth: usize) -> i32 {
     1 << (depth + 7)
 }

@@ -1,29 +1,72 @@
 //! Compares the exported calls with the Rust: compare_2d [COUNT [SEED]], COUNT blocks for each size, type and depth, each
 //! by the plain call and by the live-row call with every r that covers it, half of them with some pixels not visible.
+//! Some go by the second engine too, which is held to the Rust where there is no mark.
 
 use kernels::calls::{Answer, BlockCall, Way};
 use kernels::cases::{self, Rng, Shape};
 use kernels::compare::{count_and_rng, first_difference, hold, nearer, places_of, Case};
-use kernels::exports::{sgrifomel_inv_txfm_add, sgrifomel_inv_txfm_add_live};
+use kernels::exports::*;
 use std::collections::BTreeMap;
 
-fn got(call: &BlockCall) -> (Answer, Vec<u16>, Vec<i32>) {
+/// The answer, the plane and the coefficients.
+type Outcome = (Answer, Vec<u16>, Vec<i32>);
+
+/// Of the exported calls: the port's, or that of request E8.
+#[derive(Clone, Copy, PartialEq)]
+enum Engine {
+    First,
+    Second,
+}
+
+impl Engine {
+    /// Its number of refusal where the first engine's is `first`: the second refuses each ADST by 2.
+    fn number(self, call: &BlockCall, first: u64) -> u64 {
+        let lacks = self == Engine::Second && cases::has_adst(call.txtp);
+        if lacks && first != 1 {
+            2
+        } else {
+            first
+        }
+    }
+
+    /// What the Rust does. Where it gives the mark the second engine goes its own way, but crops as it pads: it is held
+    /// to itself on a padded plane.
+    fn wanted(self, call: &BlockCall) -> Outcome {
+        let (first, plane, coeff) = call.wanted();
+        if self.number(call, first.number) != first.number {
+            return (Answer::refused(2, 0), call.plane.clone(), call.coeff.clone());
+        }
+        if self == Engine::First || !first.mark {
+            return (first, plane, coeff);
+        }
+        let padded = call.padded();
+        let (_, done, _) = got(self, &padded);
+        (Answer::accepted(false), call.read_back(&padded, &done), coeff)
+    }
+}
+
+fn got(engine: Engine, call: &BlockCall) -> Outcome {
     let (mut plane, mut coeff) = (call.plane.clone(), call.coeff.clone());
     let &BlockCall { offset: at, stride, columns: x, rows: y, w, h, txtp: t, depth: d, .. } = call;
     let (dst, dst_len) = (plane.as_mut_ptr(), plane.len());
     let (c, c_len) = (coeff.as_mut_ptr(), coeff.len());
-    // SAFETY: each pointer and length are those of one vector; the calls ask for nothing else.
-    let word = unsafe {
-        match call.way {
-            Way::Plain(eob) => sgrifomel_inv_txfm_add(dst, dst_len, at, stride, x, y, c, c_len, eob, w, h, t, d),
-            Way::Live(r) => sgrifomel_inv_txfm_add_live(dst, dst_len, at, stride, x, y, c, c_len, r, w, h, t, d),
-        }
+    macro_rules! by {
+        ($name:ident, $last:ident) => {
+            // SAFETY: each pointer and length are those of one vector; the calls ask for nothing else.
+            unsafe { $name(dst, dst_len, at, stride, x, y, c, c_len, $last, w, h, t, d) }
+        };
+    }
+    let word = match (engine, call.way) {
+        (Engine::First, Way::Plain(eob)) => by!(sgrifomel_inv_txfm_add, eob),
+        (Engine::First, Way::Live(r)) => by!(sgrifomel_inv_txfm_add_live, r),
+        (Engine::Second, Way::Plain(eob)) => by!(sgrifomel_spec_inv_txfm_add, eob),
+        (Engine::Second, Way::Live(r)) => by!(sgrifomel_spec_inv_txfm_add_live, r),
     };
     (Answer::unpacked(word), plane, coeff)
 }
 
 #[derive(Clone)]
-struct Compared(BlockCall);
+struct Compared(BlockCall, Engine);
 
 impl Compared {
     /// The call changed by each of some values.
@@ -31,7 +74,7 @@ impl Compared {
         let changed = |v| {
             let mut call = self.0.clone();
             change(&mut call, v);
-            Compared(call)
+            Compared(call, self.1)
         };
         values.into_iter().map(changed).collect()
     }
@@ -39,7 +82,8 @@ impl Compared {
 
 impl Case for Compared {
     fn difference(&self) -> Option<String> {
-        let ((wanted, plane_after, coeff_after), (answer, plane, coeff)) = (self.0.wanted(), got(&self.0));
+        let &Compared(ref call, engine) = self;
+        let ((wanted, plane_after, coeff_after), (answer, plane, coeff)) = (engine.wanted(call), got(engine, call));
         if wanted != answer {
             return Some(format!("wanted {wanted:?}, here {answer:?}"));
         }
@@ -62,7 +106,8 @@ impl Case for Compared {
             (1, _) => {
                 let shorter_coeff = self.each(call.coeff.len().checked_sub(1), |c, len| c.coeff.truncate(len));
                 let shorter_plane = self.each(call.plane.len().checked_sub(1), |c, len| c.plane.truncate(len));
-                call.alone().map(Compared).into_iter().chain(shorter_coeff).chain(shorter_plane).collect()
+                let alone = call.alone().map(|call| Compared(call, self.1));
+                alone.into_iter().chain(shorter_coeff).chain(shorter_plane).collect()
             }
             (2, _) => self.each(1..call.columns.min(33), |c, columns| c.columns = columns),
             (3, _) => self.each(1..call.rows.min(33), |c, rows| c.rows = rows),
@@ -80,14 +125,15 @@ impl Case for Compared {
     fn describe(&self) -> String {
         let BlockCall { plane, offset, stride, columns, rows, coeff, way, w, h, txtp, depth } = &self.0;
         let (plane, coeff) = (places_of(plane), places_of(coeff));
+        let engine = if self.1 == Engine::First { "first" } else { "second" };
         format!(
-            "{w}x{h}, type {txtp}, depth {depth}, {way:?}, offset {offset}, byte stride {stride}, \
+            "{engine} engine, {w}x{h}, type {txtp}, depth {depth}, {way:?}, offset {offset}, byte stride {stride}, \
              {columns} columns and {rows} rows visible\nplane: {plane}\ncoefficients: {coeff}"
         )
     }
 }
 
-/// How many calls were made, and of them: accepted with not all visible, marked, refused by each number.
+/// How many calls were made, and of them: accepted with not all visible, marked by the Rust, refused by each number.
 #[derive(Default)]
 struct Counts {
     calls: usize,
@@ -97,16 +143,17 @@ struct Counts {
 }
 
 impl Counts {
-    fn hold(&mut self, call: BlockCall) {
-        let (answer, ..) = call.wanted();
+    fn hold(&mut self, call: BlockCall, engine: Engine) {
+        let (first, ..) = call.wanted();
         self.calls += 1;
-        if answer.number == 0 {
-            self.cropped += usize::from(!call.is_whole());
-            self.marked += usize::from(answer.mark);
-        } else {
-            *self.refused.entry(answer.number).or_default() += 1;
+        match engine.number(&call, first.number) {
+            0 => {
+                self.cropped += usize::from(!call.is_whole());
+                self.marked += usize::from(first.mark);
+            }
+            number => *self.refused.entry(number).or_default() += 1,
         }
-        hold(&Compared(call));
+        hold(&Compared(call, engine));
     }
 
     fn add(&mut self, other: Counts) {
@@ -123,42 +170,51 @@ impl Counts {
         let refused: usize = refused.values().sum();
         println!("{of}: {calls} calls the same, {cropped} cropped, {marked} marked, {refused} refused");
     }
+
+    fn report_numbers(&self) {
+        let words: Vec<String> = self.refused.iter().map(|(number, count)| format!("{number}: {count}")).collect();
+        println!("refused by number: {}", words.join(", "));
+    }
 }
 
-/// One block by the plain call, by every live-row call that covers it, and both ways damaged.
-fn compare_block(rng: &mut Rng, shape: Shape, counts: &mut Counts) {
+/// One block by the plain call, by every live-row call that covers it, and both ways damaged. By the second engine once.
+fn compare_block(rng: &mut Rng, shape: Shape, first: &mut Counts, second: &mut Counts) {
     let record = cases::record(rng, shape);
     let plain = cases::block_call(rng, &record);
     let h = shape.h;
     let live_rows = record.coeff.iter().enumerate().filter(|&(_, &v)| v != 0).map(|(p, _)| p % h + 1).max();
     let least = live_rows.unwrap_or(1);
-    counts.hold(plain.clone());
+    first.hold(plain.clone(), Engine::First);
     for r in least..=h {
-        counts.hold(BlockCall { way: Way::Live(r), ..plain.clone() });
+        first.hold(BlockCall { way: Way::Live(r), ..plain.clone() }, Engine::First);
     }
-    for way in [plain.way, Way::Live(least + rng.below(h + 1 - least))] {
+    let ways = [plain.way, Way::Live(least + rng.below(h + 1 - least))];
+    second.hold(BlockCall { way: rng.pick(&ways), ..plain.clone() }, Engine::Second);
+    for way in ways {
         let mut call = BlockCall { way, ..plain.clone() };
         // Twice now and then: the first number that applies is the answer.
         for _ in 0..1 + rng.below(2) {
             cases::damage_block(rng, &mut call);
         }
-        counts.hold(call);
+        first.hold(call.clone(), Engine::First);
+        second.hold(call, Engine::Second);
     }
 }
 
 fn main() {
     let (count, mut rng) = count_and_rng(400);
-    let mut all = Counts::default();
+    let (mut all, mut second) = (Counts::default(), Counts::default());
     for shape in cases::block_shapes() {
-        let mut counts = Counts::default();
+        let mut first = Counts::default();
         for _ in 0..count {
-            compare_block(&mut rng, shape, &mut counts);
+            compare_block(&mut rng, shape, &mut first, &mut second);
         }
         let Shape { w, h, txtp, depth } = shape;
-        counts.report(&format!("{w}x{h}, type {txtp}, depth {depth}"));
-        all.add(counts);
+        first.report(&format!("{w}x{h}, type {txtp}, depth {depth}"));
+        all.add(first);
     }
     all.report("in all");
-    let words: Vec<String> = all.refused.iter().map(|(number, count)| format!("{number}: {count}")).collect();
-    println!("refused by number: {}", words.join(", "));
+    all.report_numbers();
+    second.report("second engine");
+    second.report_numbers();
 }
