@@ -76,14 +76,15 @@ fn rust(coeff: &mut [i16], pixels: &mut [u8]) {
 fn live(coeff: &mut [i32], pixels: &mut [u16]) {
     let (dst, c) = (pixels.as_mut_ptr(), coeff.as_mut_ptr());
     // SAFETY: each pointer and length are those of one slice; the call asks for nothing else.
-    let word = unsafe { sgrifomel_inv_txfm_add_live(dst, AREA, 0, 64, c, AREA, LIVE_ROWS, SIDE, SIDE, 0, 8) };
+    let word =
+        unsafe { sgrifomel_inv_txfm_add_live(dst, AREA, 0, 64, SIDE, SIDE, c, AREA, LIVE_ROWS, SIDE, SIDE, 0, 8) };
     assert_eq!(word & 0xff, 0, "refused");
 }
 
 fn plain(coeff: &mut [i32], pixels: &mut [u16]) {
     let (dst, c) = (pixels.as_mut_ptr(), coeff.as_mut_ptr());
     // SAFETY: as above.
-    let word = unsafe { sgrifomel_inv_txfm_add(dst, AREA, 0, 64, c, AREA, 1, SIDE, SIDE, 0, 8) };
+    let word = unsafe { sgrifomel_inv_txfm_add(dst, AREA, 0, 64, SIDE, SIDE, c, AREA, 1, SIDE, SIDE, 0, 8) };
     assert_eq!(word & 0xff, 0, "refused");
 }
 
