@@ -4,7 +4,8 @@
 No range, no clip within a pass, no table of 33, no code of the library; written from the same notes on section 7.13 as the crates.
 
     spec_steps.py known                    the lines that crates/known writes of the second engine
-    spec_steps.py compare LIB [FILE [N]]   both engines of a shared library on the blocks of FILE, and on N generated ones
+    spec_steps.py compare LIB [FILE [N]]   both engines of a shared library on the blocks of FILE, and on N generated ones;
+                                           the second with a part of each visible too
 
 The library is made of the archive: cc -shared -o LIB -Wl,--whole-archive target/staticlib/libsgrifomel.a -Wl,--no-whole-archive
 """
@@ -226,13 +227,16 @@ class Library:
     def __init__(self, path):
         self.lib = ctypes.CDLL(path)
 
-    def call(self, name, w, h, kind, depth, last, coefs, pixels):
+    def call(self, name, w, h, kind, depth, last, coefs, pixels, view=None):
+        """The view is the number of visible columns and rows; None is all."""
         f = getattr(self.lib, name)
         f.restype = ctypes.c_uint64
         c, p = (ctypes.c_int32 * len(coefs))(*coefs), (ctypes.c_uint16 * len(pixels))(*pixels)
         z = ctypes.c_size_t
         last = z(last) if name.endswith("live") else ctypes.c_int32(last)
-        a = f(p, z(len(pixels)), ctypes.c_uint32(0), ctypes.c_int32(2 * w), c, z(len(coefs)), last, z(w), z(h), z(kind), z(depth))
+        columns, rows = view or (w, h)
+        plane = p, z(len(pixels)), ctypes.c_uint32(0), ctypes.c_int32(2 * w), z(columns), z(rows)
+        a = f(*plane, c, z(len(coefs)), last, z(w), z(h), z(kind), z(depth))
         return a, list(p), list(c)
 
 
@@ -247,7 +251,20 @@ def generated(rng):
     return w, h, kind, depth, rng.randrange(3), coefs, [rng.randrange(1 << depth) for _ in range(w * h)]
 
 
-def compare(lib, blocks):
+def read_back(w, pixels, done, view):
+    """Of the pixels those that are visible as they are in `done`."""
+    return [done[i] if i % w < view[0] and i // w < view[1] else p for i, p in enumerate(pixels)]
+
+
+def compare_cropped(lib, rng, name, call, whole):
+    """The call with a part visible does that part of the whole outcome, and nothing else."""
+    w, h, *_, pixels = call
+    view = rng.randrange(w) + 1, rng.randrange(h) + 1
+    answer, done, coefs = whole
+    assert lib.call(name, *call, view) == (answer, read_back(w, pixels, done, view), coefs), (name, call, view)
+
+
+def compare(lib, rng, blocks):
     seen = dict(blocks=0, marked=0, differ=0, refused=0)
     for w, h, kind, depth, eob, coefs, pixels in blocks:
         first = lib.call("sgrifomel_inv_txfm_add", w, h, kind, depth, eob, coefs, pixels)
@@ -259,7 +276,10 @@ def compare(lib, blocks):
             continue
         assert first[0] in (0, 256) and spec == (0, *expected(w, h, kind, depth, eob, coefs, pixels)), (w, h, kind, depth, eob)
         live = max([1] + [i % h + 1 for i in range(w * h) if coefs[i]])
-        assert lib.call("sgrifomel_spec_inv_txfm_add_live", w, h, kind, depth, live, coefs, pixels) == (0, *expected(w, h, kind, depth, 1, coefs, pixels, live))
+        by_rows = 0, *expected(w, h, kind, depth, 1, coefs, pixels, live)
+        assert lib.call("sgrifomel_spec_inv_txfm_add_live", w, h, kind, depth, live, coefs, pixels) == by_rows
+        compare_cropped(lib, rng, "sgrifomel_spec_inv_txfm_add", (w, h, kind, depth, eob, coefs, pixels), spec)
+        compare_cropped(lib, rng, "sgrifomel_spec_inv_txfm_add_live", (w, h, kind, depth, live, coefs, pixels), by_rows)
         seen["marked"] += first[0] >> 8
         if first[0] == 256:
             seen["differ"] += first[1:] != spec[1:]
@@ -286,9 +306,9 @@ def main():
         return 2
     lib, rng = Library(sys.argv[2]), random.Random(8)
     if len(sys.argv) > 3:
-        print(sys.argv[3], compare(lib, blocks_of(sys.argv[3])))
+        print(sys.argv[3], compare(lib, rng, blocks_of(sys.argv[3])))
     count = int(sys.argv[4]) if len(sys.argv) > 4 else 3000
-    print("generated", compare(lib, (generated(rng) for _ in range(count))))
+    print("generated", compare(lib, rng, (generated(rng) for _ in range(count))))
     return 0
 
 
