@@ -1,6 +1,5 @@
 // Step 6 of the two-dimensional transform: what is added to the pixels of a plane.
 ghost use mathlib.Core.Path.{_≡_};
-ghost use mathlib.Core.Bool as Bool;
 ghost use Prim.Native.Nat.{_+_, _-_, _*_, _≤_, min};
 ghost use lib.IntN.{pos, natAbs};
 ghost use lib.ListN.{length};
@@ -122,49 +121,62 @@ pub fn add_block(ps: &mut [u16], spot: Spot, t: &[i32], step: usize, columns: Ki
     }
 }
 
-// Whether one of the n pixels from `from` on is above top.
-fn any_above(ps: &[u16], from: usize, n: usize, top: u16) -> bool
-    requires { ⌜ from + n ≤ length (now ps) ⌝ }
-    ensures { λ r. ⌜ (r ≡ Bool.false → Inner.LowRow top (now (ps .entry)) from n) ⌝ }
+// As large as both: vector units have it, and not the larger.
+fn joint(p: u16, q: u16) -> u16
+    ensures { λ r. ⌜ (p ≤ r) × (q ≤ r) ⌝ }
 {
-    let mut hit = false;
+    p | q
+}
+
+// None of the n pixels from `from` on is above this.
+fn bound(ps: &[u16], from: usize, n: usize) -> u16
+    requires { ⌜ from + n ≤ length (now ps) ⌝ }
+    ensures { λ r. ⌜ Inner.LowRow r (now (ps .entry)) from n ⌝ }
+{
+    let mut most = 0u16;
     for x in 0..n {
         let p = ps[from + x];
-        hit = hit | (top < p);
+        most = joint(most, p);
     }
-    hit
+    most
 }
 
 // Rows as wide as a block apart, whose loops LLVM takes without a test.
-fn any_in_row(ps: &[u16], from: usize, n: usize, top: u16) -> bool
+fn row_bound(ps: &[u16], from: usize, n: usize) -> u16
     requires { ⌜ from + n ≤ length (now ps) ⌝ }
-    ensures { λ r. ⌜ (r ≡ Bool.false → Inner.LowRow top (now (ps .entry)) from n) ⌝ }
+    ensures { λ r. ⌜ Inner.LowRow r (now (ps .entry)) from n ⌝ }
 {
-    if n == 4 {
-        return any_above(ps, from, 4, top);
+    if n == 32 {
+        return bound(ps, from, 32);
+    }
+    if n == 16 {
+        return bound(ps, from, 16);
     }
     if n == 8 {
-        return any_above(ps, from, 8, top);
+        return bound(ps, from, 8);
     }
-    any_above(ps, from, n, top)
+    if n == 4 {
+        return bound(ps, from, 4);
+    }
+    bound(ps, from, n)
 }
 
-// Whether a visible pixel is above top.
-fn any_visible_above(ps: &[u16], spot: Spot, w: usize, top: u16) -> bool
+// No visible pixel is above this.
+fn visible_bound(ps: &[u16], spot: Spot, w: usize) -> u16
     requires { ⌜ Inner.Looking spot w (length (now ps)) ⌝ }
-    ensures { λ r. ⌜ (r ≡ Bool.false → Inner.Low top (now (ps .entry)) spot) ⌝ }
+    ensures { λ r. ⌜ Inner.Low r (now (ps .entry)) spot ⌝ }
 {
     let offset = spot.offset;
     let stride = spot.stride;
     let n = spot.columns;
     let rows = spot.rows;
-    let mut hit = false;
+    let mut most = 0u16;
     for y in 0..rows {
         let from = stride.start(offset, y as u16);
-        let more = any_in_row(ps, from as usize, n, top);
-        hit = hit | more;
+        let more = row_bound(ps, from as usize, n);
+        most = joint(most, more);
     }
-    hit
+    most
 }
 
 fn search_above(ps: &[u16], spot: Spot, w: usize, top: u16) -> Found
@@ -194,7 +206,8 @@ pub fn first_above(ps: &[u16], spot: Spot, w: usize, top: u16) -> Found
     requires { ⌜ Inner.Looking spot w (length (now ps)) ⌝ }
     ensures { λ r. ⌜ found r ≡ first-above top (now (ps .entry)) spot w ⌝ }
 {
-    if any_visible_above(ps, spot, w, top) {
+    let most = visible_bound(ps, spot, w);
+    if top < most {
         return search_above(ps, spot, w, top);
     }
     Found::Nothing

@@ -1,5 +1,6 @@
 -- `pixels::first_above` meets its contract.
 use mathlib.Core.Path.{sym}
+use native.Mathlib.Omega.{arith}
 use borrow.Author.Needs.{needs}
 use Rattle.pixels.proofs.Above.{no-above}
 use Rattle.pixels.proofs.first_above.Statement.{statement}
@@ -14,4 +15,4 @@ first-above-spec =
     (λ c. c .search-above .ensures)
     (λ c.
     let s = c .before .before .before in
-    sym (no-above (s .args .top) (s .args .ps .now) (s .args .spot) (s .args .w) (s .pre .columns-in) (λ y x l m. c .before .any-visible-above .ensures (c .if1 .left) y l x m))))
+    sym (no-above (s .args .top) (s .args .ps .now) (s .args .spot) (s .args .w) (s .pre .columns-in) (λ y x l m. omega (arith, c .before .visible-bound .ensures y l x m, c .if1 .left)))))

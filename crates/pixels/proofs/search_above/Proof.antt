@@ -16,7 +16,7 @@ use Rattle.whole.proofs.Counts.{none-first, first-found}
 use Rattle.whole.proofs.Parts.{nn}
 use Rattle.strided.specs.declared.Spot.{Spot}
 use Rattle.strided.specs.declared.PixelStride.{PixelStride}
-use Rattle.strided.specs.Planes.{starts, begins}
+use Rattle.strided.specs.Planes.{starts}
 use Rattle.strided.proofs.Casts.{read, to-usize}
 use Rattle.strided.proofs.Rows.{row-within}
 use Rattle.coefs.specs.declared.Found.the-variants.{Nothing}
