@@ -141,28 +141,8 @@ fn bound(ps: &[u16], from: usize, n: usize) -> u16
     most
 }
 
-// Rows as wide as a block apart, whose loops LLVM takes without a test.
-fn row_bound(ps: &[u16], from: usize, n: usize) -> u16
-    requires { ⌜ from + n ≤ length (now ps) ⌝ }
-    ensures { λ r. ⌜ Inner.LowRow r (now (ps .entry)) from n ⌝ }
-{
-    if n == 32 {
-        return bound(ps, from, 32);
-    }
-    if n == 16 {
-        return bound(ps, from, 16);
-    }
-    if n == 8 {
-        return bound(ps, from, 8);
-    }
-    if n == 4 {
-        return bound(ps, from, 4);
-    }
-    bound(ps, from, n)
-}
-
-// No visible pixel is above this.
-fn visible_bound(ps: &[u16], spot: Spot, w: usize) -> u16
+// None of the visible pixels is above this.
+fn rows_bound(ps: &[u16], spot: Spot, w: usize) -> u16
     requires { ⌜ Inner.Looking spot w (length (now ps)) ⌝ }
     ensures { λ r. ⌜ Inner.Low r (now (ps .entry)) spot ⌝ }
 {
@@ -173,10 +153,31 @@ fn visible_bound(ps: &[u16], spot: Spot, w: usize) -> u16
     let mut most = 0u16;
     for y in 0..rows {
         let from = stride.start(offset, y as u16);
-        let more = row_bound(ps, from as usize, n);
+        let more = bound(ps, from as usize, n);
         most = joint(most, more);
     }
     most
+}
+
+// The same. Rows as wide as a block are apart, whose loops LLVM takes without a test.
+fn visible_bound(ps: &[u16], spot: Spot, w: usize) -> u16
+    requires { ⌜ Inner.Looking spot w (length (now ps)) ⌝ }
+    ensures { λ r. ⌜ Inner.Low r (now (ps .entry)) spot ⌝ }
+{
+    let n = spot.columns;
+    if n == 4 {
+        return rows_bound(ps, spot.wide(4), w);
+    }
+    if n == 8 {
+        return rows_bound(ps, spot.wide(8), w);
+    }
+    if n == 16 {
+        return rows_bound(ps, spot.wide(16), w);
+    }
+    if n == 32 {
+        return rows_bound(ps, spot.wide(32), w);
+    }
+    rows_bound(ps, spot, w)
 }
 
 fn search_above(ps: &[u16], spot: Spot, w: usize, top: u16) -> Found

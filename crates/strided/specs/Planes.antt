@@ -57,6 +57,10 @@ bad-view w h v = not-in w (v .columns) || not-in h (v .rows)
 abbrev pub spot : View → Spot
 spot v = record { offset = v .offset; stride = record { 0 = in-pixels (v .stride .0) }; columns = v .columns; rows = v .rows }
 
+-- a spot with so many columns
+abbrev pub wide : Spot → ℕ → Spot
+wide s columns = record { offset = s .offset; stride = s .stride; columns = columns; rows = s .rows }
+
 -- where row y starts, as a place in the slice
 abbrev pub begins : Spot → ℕ → ℕ
 begins s y = natAbs (starts (s .offset) (s .stride .0) y)

@@ -3,7 +3,7 @@ ghost use mathlib.Core.Path.{_≡_};
 ghost use lib.IntN.{natAbs};
 ghost use lib.ListN.{length};
 ghost use Rattle.whole.specs.Checks.{accept, unless};
-ghost use Rattle.strided.specs.Planes.{stride-check, turned, starts, rows-check, rows-outside, spot-check, spotted, row-part, IsPart};
+ghost use Rattle.strided.specs.Planes.{stride-check, turned, starts, rows-check, rows-outside, spot-check, spotted, wide, row-part, IsPart};
 use levels::SizeCheck;
 use levels::size_shift;
 
@@ -111,6 +111,21 @@ impl PixelStride {
             RowsCheck::Outside
         } else {
             RowsCheck::Inside
+        }
+    }
+}
+
+impl Spot {
+    // With so many columns: what is known of a width at one place stays known to the compiler.
+    pub fn wide(self, columns: usize) -> Spot
+        ensures { λ r. ⌜ r ≡ wide self columns ⌝ }
+    {
+        let stride = self.stride;
+        Spot {
+            offset: self.offset,
+            stride,
+            columns,
+            rows: self.rows,
         }
     }
 }
