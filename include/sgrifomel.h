@@ -23,7 +23,7 @@ static inline uint64_t sgrifomel_place(uint64_t answer) {
     return answer >> 16;
 }
 
-/* The numbers of refusal, in the order of the checks. A refusal leaves every buffer as it was, with mark 0. 9, 10 and 14
+/* The numbers of refusal, in the order of the checks. A refusal leaves every buffer as it was, with mark 0. 9, 10, 14 and 21
    carry the place of the first offender, counted from 0; the others carry 0. */
 enum {
     SGRIFOMEL_ACCEPTED = 0,
@@ -38,6 +38,7 @@ enum {
     SGRIFOMEL_ROW = 8,          /* the visible part of some visible row not wholly inside the plane */
     SGRIFOMEL_RANGE = 9,        /* one of the first w*h coefficients outside the row range */
     SGRIFOMEL_STRAY = 10,       /* nonzero coefficient in a row r or later */
+    SGRIFOMEL_PIXEL = 21,       /* visible pixel above the depth's maximum, 255, 1023 or 4095; its place is row * w + column */
     SGRIFOMEL_PASS_RANGE = 11,  /* min..max not -m..m-1 with m 32768, 131072 or 524288 */
     SGRIFOMEL_PASS_STRIDE = 12, /* stride 0 */
     SGRIFOMEL_PASS_SHORT = 13,  /* c ends before the last element */
