@@ -108,7 +108,7 @@ pub fn shift_block(ps: &mut [u16], spot: Spot, v: i32, top: u16)
 }
 
 // Row y's numbers stand in t from y·step on.
-fn add_lines(ps: &mut [u16], spot: Spot, t: &[i32], step: usize, columns: Kind, top: u16)
+pub fn add_block(ps: &mut [u16], spot: Spot, t: &[i32], step: usize, columns: Kind, top: u16)
     requires { ⌜ Inner.Adding spot step (now ps) (now t) ⌝ }
     ensures { λ _. ⌜ now (ps .exit) ≡ add-rows top (now (ps .entry)) (begins spot) (λ y x. Inner.left columns (at (now (t .entry)) (y * step + x))) (spot .columns) (spot .rows) ⌝ }
 {
@@ -118,18 +118,6 @@ fn add_lines(ps: &mut [u16], spot: Spot, t: &[i32], step: usize, columns: Kind, 
     for y in 0..spot.rows {
         let from = stride.start(offset, y as u16);
         add_row(&mut *ps, from as usize, t, y * step, columns, n, top);
-    }
-}
-
-// The same. Blocks of four columns are apart, whose loops LLVM takes without a test.
-pub fn add_block(ps: &mut [u16], spot: Spot, t: &[i32], step: usize, columns: Kind, top: u16)
-    requires { ⌜ Inner.Adding spot step (now ps) (now t) ⌝ }
-    ensures { λ _. ⌜ now (ps .exit) ≡ add-rows top (now (ps .entry)) (begins spot) (λ y x. Inner.left columns (at (now (t .entry)) (y * step + x))) (spot .columns) (spot .rows) ⌝ }
-{
-    if spot.columns == 4 {
-        add_lines(ps, spot.wide(4), t, step, columns, top);
-    } else {
-        add_lines(ps, spot, t, step, columns, top);
     }
 }
 
