@@ -3,7 +3,7 @@
 
 use crate::cases;
 use crate::itx::{self, Kind, Plan};
-use crate::shim::{recorder, BitDepth, BitDepth16, BitDepth8, BitDepth8Wide, FromPrimitive, ToPrimitive};
+use crate::shim::{recorder, BitDepth, BitDepth16, BitDepth8, FromPrimitive, ToPrimitive};
 
 #[derive(Clone, Copy, PartialEq, Eq, Debug)]
 pub struct Answer {
@@ -96,7 +96,7 @@ pub struct BlockCall {
 }
 
 impl BlockCall {
-    /// Numbers 1 to 10, and request E5's 20 after 6, in their order.
+    /// Numbers 1 to 10, with request E5's 20 after 6, then request E6's 21: in their order.
     fn refusal(&self) -> Option<Answer> {
         let number = |number: u64, holds: bool| holds.then(|| Answer::refused(number, 0));
         let (w, h) = (self.w, self.h);
@@ -114,12 +114,23 @@ impl BlockCall {
                 Way::Live(r) => self.offender(10, |v, y| y >= r && v != 0),
                 Way::Plain(_) => None,
             })
+            .or_else(|| self.bright())
     }
 
     /// Refusal by the first coefficient, in buffer order, that `offends` with its value and row.
     fn offender(&self, number: u64, offends: impl Fn(i32, usize) -> bool) -> Option<Answer> {
         let place = (0..self.w * self.h).find(|&p| offends(self.coeff[p], p % self.h))?;
         Some(Answer::refused(number, place))
+    }
+
+    /// Refusal by the first visible pixel, row by row, above the depth's maximum.
+    fn bright(&self) -> Option<Answer> {
+        let maximum = cases::maximum(self.depth);
+        let in_row = |(y, at): (usize, usize)| {
+            let x = self.plane[at..][..self.columns].iter().position(|&p| p > maximum)?;
+            Some(Answer::refused(21, y * self.w + x))
+        };
+        self.starts().enumerate().find_map(in_row)
     }
 
     fn pixel_stride(&self) -> i64 {
@@ -133,7 +144,7 @@ impl BlockCall {
         (start + self.columns <= self.plane.len()).then_some(start)
     }
 
-    /// Where the visible rows of an accepted call start, the first first.
+    /// Where the visible rows of a call start that is not refused by 8 or before it, the first first.
     fn starts(&self) -> impl Iterator<Item = usize> + '_ {
         (0..self.rows).filter_map(|y| self.row(y))
     }
@@ -193,15 +204,10 @@ impl BlockCall {
         if let Some(refusal) = self.refusal() {
             return (refusal, self.plane.clone(), self.coeff.clone());
         }
-        if self.depth != 8 {
-            let bitdepth_max = cases::maximum(self.depth);
-            return self.run(BitDepth16 { bitdepth_max });
-        }
-        let fits = self.starts().all(|at| self.plane[at..][..self.columns].iter().all(|&p| p <= 255));
-        if fits {
+        if self.depth == 8 {
             self.run(BitDepth8)
         } else {
-            self.run(BitDepth8Wide)
+            self.run(BitDepth16 { bitdepth_max: cases::maximum(self.depth) })
         }
     }
 

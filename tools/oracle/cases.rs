@@ -192,14 +192,14 @@ fn coefficients(rng: &mut Rng, shape: Shape) -> Vec<i32> {
     coeff
 }
 
-/// Pixels up to the maximum; now and then, above depth 8, any.
+/// Pixels up to the maximum; now and then it is half of them.
 fn pixels(rng: &mut Rng, n: usize, depth: usize) -> Vec<u16> {
     let maximum = maximum(depth);
     let mut v = vec![rng.below(maximum as usize + 1) as u16; n];
     match rng.below(5) {
         0 => {}
         1 => v.fill_with(|| rng.pick(&[0, 1, maximum - 1, maximum])),
-        2 if depth > 8 => v.fill_with(|| rng.word() as u16),
+        2 => v.fill_with(|| maximum.min(rng.below(2 * maximum as usize) as u16)),
         _ => v.fill_with(|| rng.below(maximum as usize + 1) as u16),
     }
     v
@@ -270,7 +270,7 @@ pub fn block_call(rng: &mut Rng, record: &Record) -> BlockCall {
 pub fn damage_block(rng: &mut Rng, call: &mut BlockCall) {
     let small = rng.below(70);
     let at = rng.below(call.coeff.len().max(1));
-    match rng.below(14) {
+    match rng.below(17) {
         0 => call.w = rng.pick(&[0, 4, 8, 16, 32, 64, small, usize::MAX, 1 << 62]),
         1 => call.h = rng.pick(&[0, 4, 8, 16, 32, 64, small, usize::MAX, 1 << 62]),
         2 => call.txtp = rng.pick(&[small % 20, 256, usize::MAX]),
@@ -296,7 +296,25 @@ pub fn damage_block(rng: &mut Rng, call: &mut BlockCall) {
         10 => call.columns = visible_damaged(rng, call.columns, call.w),
         11 => call.rows = visible_damaged(rng, call.rows, call.h),
         12 => damage_ends(rng, call),
+        13..=15 => brighten(rng, call),
         _ => call.coeff.get_mut(at).into_iter().for_each(|v| *v = 1),
+    }
+}
+
+/// Up to three pixels above the maximum of a depth, or just not, visible or not; now and then after a coefficient that is
+/// refused before them, or a stray.
+fn brighten(rng: &mut Rng, call: &mut BlockCall) {
+    for _ in 0..1 + rng.below(3) {
+        let maximum = maximum(rng.pick(&DEPTHS));
+        let above = maximum + 1 + rng.below(usize::from(u16::MAX - maximum)) as u16;
+        let value = rng.pick(&[maximum, maximum + 1, maximum + 1, above, u16::MAX]);
+        let at = rng.below(call.plane.len().max(1));
+        call.plane.get_mut(at).into_iter().for_each(|p| *p = value);
+    }
+    if rng.below(4) == 0 {
+        let at = rng.below(call.coeff.len().max(1));
+        let value = rng.pick(&[1, i32::MAX, i32::MIN]);
+        call.coeff.get_mut(at).into_iter().for_each(|v| *v = value);
     }
 }
 

@@ -77,21 +77,6 @@ impl BitDepth for BitDepth8 {
     }
 }
 
-/// Depth 8 with wider pixels, which the crate does not have: only for a pixel above 255, where it has no answer.
-#[derive(Clone, Copy)]
-pub struct BitDepth8Wide;
-
-impl BitDepth for BitDepth8Wide {
-    const BITDEPTH: u8 = 8;
-
-    type Pixel = u16;
-    type Coef = i16;
-
-    fn bitdepth_max(&self) -> u16 {
-        u8::MAX.into()
-    }
-}
-
 #[derive(Clone, Copy)]
 pub struct BitDepth16 {
     pub bitdepth_max: u16,
