@@ -123,17 +123,18 @@ EMPTY = []
 for size in sorted(SIZES):
     for depth in ROW:
         w, h = size
-        p = [min(65535, 37 * i) for i in range(w * h)]
+        p = [max(0, MOST[depth] - 37 * i) for i in range(w * h)]
         if w * h <= 128:
-            EMPTY.append(known(w, h, 9, depth, 2147483647, 0, p, [min(MOST[depth], v) for v in p]))
+            EMPTY.append(known(w, h, 9, depth, 2147483647, 0, p, p))
 for t in ADST:
     p = [17 * i for i in range(16)]
     EMPTY.append(known(4, 4, t, 8, t % 2, 0, p, p))
+WHITE = [known(4, 4, 9, depth, 1, 0, flat(4, 4, most), flat(4, 4, most)) for depth, most in MOST.items()]
 FIRST = [dct, idtx, h_dct, v_dct, wht, eight, narrow, tall]
 
 
 def refuse(r):
-    """document 01's checks of a record whose size is right"""
+    """document 01's checks of a record whose size is right, and E6's"""
     w, h, txtp, depth, eob, cs, ps = r
     small = w * h <= 128 or (w, h) == (16, 16)
     if not (txtp in (0, 9) or (txtp in (10, 11) and small) or (txtp in (*ADST, 16) and (w, h) == (4, 4))):
@@ -142,6 +143,8 @@ def refuse(r):
         raise Refused(3)
     if any(not -ROW[depth] <= c < ROW[depth] for c in cs):
         raise Refused(9)
+    if any(p > MOST[depth] for p in ps):
+        raise Refused(21)
 
 
 def do(r):
@@ -161,8 +164,9 @@ def files():
     for r in FIRST:
         yield number(1) + record(r)
     yield number(1) + b"".join(record(r) for r in FIRST)
-    for r in EMPTY:
+    for r in EMPTY + WHITE:
         yield number(1) + record(r)
+    yield number(1) + b"".join(record(r) for r in [dct, *WHITE, wht])
     for bad in refused():
         yield number(1) + bad
         yield number(1) + record(dct) + bad
@@ -211,10 +215,25 @@ def refused():
         yield record(changed(narrow, txtp=t))
     for d in (0, 9, 16, 4294967295):
         yield record(changed(dct, depth=d))                            # 3
-    # the first that applies: 19 before 2, 2 before 3, 3 before 9
+    for white in WHITE:
+        most = MOST[white[3]]
+        for at in (0, 7, 15):
+            yield record(changed(white, ps=one_of(white[6], at, most + 1)))  # 21
+        yield record(changed(white, ps=one_of(white[6], 15, 65535)))
+    for r in FIRST:
+        yield record(changed(r, ps=one_of(r[6], len(r[6]) - 1, 256)))
+    for eob in (0, 1):
+        yield record((4, 4, 0, 10, eob, one_of((0,) * 16, 0, -131072), one_of(ps, 0, 2000)))  # document 01's depth 10 example
+    # the first that applies: 19 before 2, 2 before 3, 3 before 9, each and 15 before 21
     yield record(changed(dct, txtp=17, ps=one_of(ps, 0, 70000)))
     yield record(changed(dct, txtp=17, depth=9))
     yield record(changed(dct, depth=9, cs=one_of(cs, 0, 32768)))
+    bright = changed(dct, ps=one_of(ps, 0, 256))
+    yield record(changed(bright, ps=one_of(bright[6], 9, 65536)))
+    yield record(changed(bright, txtp=17))
+    yield record(changed(bright, depth=9))
+    yield record(changed(bright, cs=one_of(cs, 15, 32768)))
+    yield record(bright)[:-1]
 
 
 def main():
