@@ -1,5 +1,6 @@
-// Planes of which a part is visible (request E5): both sides of 20 and of 8, and the two row lookups. Blocks of 4x4 at
-// depth 8.
+// Planes of which a part is visible (request E5): both sides of 20, of 8 and of request E6's 21, and the two row lookups.
+// Blocks of 4x4, at depth 8 but for 21.
+ghost use Prim.Native.Nat.{_<_};
 use crate::blocks;
 use strided::ByteStride;
 use strided::View;
@@ -39,12 +40,12 @@ fn plane(view: View) {
     show::number(b" rows ", view.rows as u64);
 }
 
-fn plain(dst: &mut [u16], view: View, c: &mut [i32], eob: i32, txtp: usize) {
-    show::size(4, 4, txtp, 8);
+fn plain(dst: &mut [u16], view: View, c: &mut [i32], eob: i32, txtp: usize, depth: usize) {
+    show::size(4, 4, txtp, depth);
     plane(view);
     show::eob(eob);
     show::block(&*dst, &*c);
-    let answer = itx::inv_txfm_add(&mut *dst, view, &mut *c, eob, 4, 4, txtp, 8);
+    let answer = itx::inv_txfm_add(&mut *dst, view, &mut *c, eob, 4, 4, txtp, depth);
     blocks::shown(answer, &*dst, &*c);
 }
 
@@ -59,7 +60,7 @@ fn live(dst: &mut [u16], view: View, c: &mut [i32], r: usize, txtp: usize) {
 
 fn rising(dst: &mut [u16], view: View, eob: i32, txtp: usize) {
     let mut c = RISING;
-    plain(dst, view, &mut c, eob, txtp);
+    plain(dst, view, &mut c, eob, txtp, 8);
 }
 
 // Slices that end with the last visible pixel, and one pixel before it.
@@ -69,7 +70,14 @@ fn cropped() {
     rising(&mut [100u16; 7], seen(4, -8, 3, 2), 1, 9);
     rising(&mut [100u16; 6], seen(4, -8, 3, 2), 1, 9);
     rising(&mut [100u16; 7], seen(3, -8, 3, 2), 1, 9);
-    plain(&mut [100u16; 7], seen(0, 8, 3, 2), &mut [64i32; 16], 0, 0);
+    plain(
+        &mut [100u16; 7],
+        seen(0, 8, 3, 2),
+        &mut [64i32; 16],
+        0,
+        0,
+        8,
+    );
     rising(&mut [100u16; 14], seen(0, 8, 2, 4), 1, 0);
     rising(&mut [100u16; 16], seen(0, 8, 4, 4), 1, 16);
     rising(&mut [100u16; 13], seen(12, -8, 1, 4), 1, 16);
@@ -97,8 +105,55 @@ fn number_20() {
     in_20(8, 4, 18446744073709551615);
     in_20(7, 5, 4);
     in_20(6, 2, 2);
-    plain(&mut [100u16; 20], seen(0, 8, 5, 4), &mut [64i32; 15], 1, 9);
+    plain(
+        &mut [100u16; 20],
+        seen(0, 8, 5, 4),
+        &mut [64i32; 15],
+        1,
+        9,
+        8,
+    );
     live(&mut [100u16; 20], seen(0, 8, 4, 5), &mut [64i32; 16], 5, 9);
+}
+
+// This pixel in a plane of 100 whose pixels 1 to 3 and 6 to 8 are visible: 3 of 4 columns, and rows 5 pixels apart.
+fn bright(at: usize, pixel: u16, depth: usize)
+    requires { ⌜ at < 12 ⌝ }
+{
+    let mut dst = [100u16; 12];
+    dst[at] = pixel;
+    let mut c = RISING;
+    plain(&mut dst, seen(1, 10, 3, 2), &mut c, 1, 9, depth);
+}
+
+// Two pixels above the maximum: the first by rows, also where the rows go up; and after 10 and 9, which come before 21.
+fn two_bright() {
+    let mut dst = [100u16; 12];
+    dst[3] = 256;
+    dst[6] = 65535;
+    let down = seen(1, 10, 3, 2);
+    rising(&mut dst, down, 1, 9);
+    rising(&mut dst, seen(6, -10, 3, 2), 1, 9);
+    live(&mut dst, down, &mut [64i32; 16], 4, 0);
+    live(&mut dst, down, &mut [64i32; 16], 3, 0);
+    let mut c = RISING;
+    c[15] = 32768;
+    plain(&mut dst, down, &mut c, 0, 0, 8);
+}
+
+// 21 speaks of visible pixels, and its place counts by w.
+fn number_21() {
+    bright(1, 255, 8);
+    bright(1, 256, 8);
+    bright(1, 1023, 10);
+    bright(1, 1024, 10);
+    bright(1, 4095, 12);
+    bright(1, 4096, 12);
+    bright(8, 256, 8);
+    bright(4, 256, 8);
+    bright(5, 65535, 10);
+    bright(11, 65535, 12);
+    two_bright();
 }
 
 fn set_last(part: &mut [u16], v: u16) {
@@ -139,5 +194,6 @@ fn lookups() {
 pub fn all() {
     cropped();
     number_20();
+    number_21();
     lookups();
 }
