@@ -27,6 +27,7 @@ use itx_1d::Kind;
 use levels::Decision;
 use levels::Plan;
 use pixels::add_block;
+use pixels::add_four;
 use pixels::first_above;
 use pixels::shift_block;
 use residual::Engine;
@@ -283,7 +284,7 @@ fn by_wht(dst: &mut [u16], spot: Spot, coeff: &mut [i32], depth: Depth, r: usize
     let top = depth.maximum();
     let mut t = [0i32; 16];
     resolve_wht(&mut t, &*coeff, r);
-    add_block(&mut *dst, spot, &t, 4, Kind::Wht, top);
+    add_four(&mut *dst, spot, &t, 4, Kind::Wht, top);
     clear(&mut *coeff, 16);
 }
 

@@ -121,6 +121,18 @@ pub fn add_block(ps: &mut [u16], spot: Spot, t: &[i32], step: usize, columns: Ki
     }
 }
 
+// The same for blocks four wide. Those that are seen in full are apart, whose rows LLVM adds without a test.
+pub fn add_four(ps: &mut [u16], spot: Spot, t: &[i32], step: usize, columns: Kind, top: u16)
+    requires { ⌜ Inner.Adding spot step (now ps) (now t) ⌝ }
+    ensures { λ _. ⌜ now (ps .exit) ≡ add-rows top (now (ps .entry)) (begins spot) (λ y x. Inner.left columns (at (now (t .entry)) (y * step + x))) (spot .columns) (spot .rows) ⌝ }
+{
+    if spot.columns == 4 {
+        add_block(ps, spot.wide(4), t, step, columns, top);
+    } else {
+        add_block(ps, spot, t, step, columns, top);
+    }
+}
+
 // As large as both: vector units have it, and not the larger.
 fn joint(p: u16, q: u16) -> u16
     ensures { λ r. ⌜ (p ≤ r) × (q ≤ r) ⌝ }
