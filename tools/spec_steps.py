@@ -5,7 +5,7 @@ No range, no clip within a pass, no table of 33, no code of the library; written
 
     spec_steps.py known                    the lines that crates/known writes of the second engine
     spec_steps.py compare LIB [FILE [N]]   both engines of a shared library on the blocks of FILE, and on N generated ones;
-                                           the second with a part of each visible too
+                                           the second with a part of each visible too, and with a pixel above the maximum
 
 The library is made of the archive: cc -shared -o LIB -Wl,--whole-archive target/staticlib/libsgrifomel.a -Wl,--no-whole-archive
 """
@@ -257,11 +257,20 @@ def read_back(w, pixels, done, view):
 
 
 def compare_cropped(lib, rng, name, call, whole):
-    """The call with a part visible does that part of the whole outcome, and nothing else."""
-    w, h, *_, pixels = call
+    """The call with a part visible does that part of the whole outcome, and nothing else.
+
+    A pixel above the maximum is refused by 21 with its place where it is visible, and stays where it is not.
+    """
+    *asked, pixels = call
+    w, h, _, depth, _, before = asked
     view = rng.randrange(w) + 1, rng.randrange(h) + 1
     answer, done, coefs = whole
     assert lib.call(name, *call, view) == (answer, read_back(w, pixels, done, view), coefs), (name, call, view)
+    at = rng.randrange(w * h)
+    bright = pixels[:at] + [rng.choice((1 << depth, 65535))] + pixels[at + 1:]
+    visible = at % w < view[0] and at // w < view[1]
+    wanted = (21 + (at << 16), bright, before) if visible else (answer, read_back(w, bright, done, view), coefs)
+    assert lib.call(name, *asked, bright, view) == wanted, (name, asked, bright, view)
 
 
 def compare(lib, rng, blocks):
