@@ -1,6 +1,5 @@
 -- `itx::by_wht` meets its contract.
-use mathlib.Core.Path.{_≡_, refl}
-use native.Mathlib.Omega.{arith}
+use mathlib.Core.Path.{refl}
 use lib.Dec.{lit≤}
 use borrow.Author.Needs.{needs}
 use Rattle.itx.proofs.Painting.{zeros-at, adding, painted}

@@ -4,7 +4,7 @@ use mathlib.Core.List.{[], _∷_}
 use mathlib.Core.Option.{Option}
 use Prim.Native.Nat.{ℕ}
 use borrow.Author.Needs.{needs}
-use Rattle.whole.specs.Checks.{Check, accept, then, unless-at, judged}
+use Rattle.whole.specs.Checks.{accept, then, unless-at, judged}
 use Rattle.bitdepth.specs.declared.Depth.{Depth}
 use Rattle.bitdepth.specs.Depths.{maximum}
 use Rattle.coefs.specs.declared.Found.{Found}
