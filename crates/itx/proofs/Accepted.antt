@@ -27,7 +27,7 @@ use Rattle.levels.specs.declared.Plan.{Plan}
 use Rattle.levels.specs.Plans.{among, shift-0, shift-1, shift-2, shift-of, Sizes, every, small, only-4x4, has, TxType, kinds-of, plan}
 use Rattle.levels.proofs.Sizes.{plan-of, plan-sided}
 use Rattle.levels.proofs.Types.{by-types}
-use Rattle.strided.specs.Planes.{spot, spot-outside}
+use Rattle.strided.specs.Planes.{lies, spot-outside}
 use Rattle.strided.specs.declared.Spot.{Spot}
 use Rattle.strided.proofs.Rows.{columns-in, rows-in}
 use Rattle.residual.specs.declared.Engine.{Engine}
@@ -128,7 +128,7 @@ module _ (e : Engine) (call : Call) (b : Block) where
       let o = ap (outcome-of (way-by e) call b) (sym f) in
       record { answer-is = ap (λ (o : Outcome). o .answer) o; pixels-are = ap (λ (o : Outcome). o .pixels) o; coefs-are = ap (λ (o : Outcome). o .coefs) o }
 
-  module _ (p : Plan) (d : Depth) (a : Accepted call b p d) (s : Spot) (turned : s ≡ spot (b .plane .view)) where
+  module _ (p : Plan) (d : Depth) (a : Accepted call b p d) (s : Spot) (turned : s ≡ lies (b .plane)) where
     pub ready : Ready p s ps c
     ready = record {
       sized = sized (b .w) (b .h) (b .type) p (a .planned);

@@ -22,7 +22,7 @@ use Rattle.bitdepth.specs.declared.Depth.the-variants.{Eight, Ten, Twelve}
 use Rattle.bitdepth.specs.Depths.{row-range, column-range, maximum}
 use Rattle.levels.specs.declared.Plan.{Plan}
 use native.Mathlib.Omega.{arith}
-use Rattle.strided.specs.Planes.{spot, begins}
+use Rattle.strided.specs.Planes.{lies, begins}
 use Rattle.strided.proofs.Rows.{columns-in}
 use Rattle.pixels.specs.Adds.{add-pixel}
 use Rattle.itx.specs.Av1.{bit-depth, held, av1-way, av1-outcome}
@@ -88,7 +88,7 @@ module _ (b : Block) where
       let none = ap₂ (λ s t. s || t) (any-none r (λ y. row 𝓦 c y .mark) (λ y l. refl)) (any-none (p .w) (λ x. column 𝓦 c r x .mark) (λ x l. refl)) in
       λ i. record {
         answer = acceptance ((e ∙ sym none) i);
-        pixels = rows-ext (maximum d) (b .plane .pixels) (begins (spot (b .plane .view))) (residual (way p d) c r) (residual 𝓦 c r) v (b .plane .view .rows)
+        pixels = rows-ext (maximum d) (b .plane .pixels) (begins (lies (b .plane))) (residual (way p d) c r) (residual 𝓦 c r) v (b .plane .view .rows)
             (λ y x k l. ap (add-pixel (maximum d) _) (residual-av1 p d c r e y x (omega (arith, l, columns-in (p .w) (p .h) (b .plane .view) (good .placed .seen) .1)))) i;
         coefs = replicate n (pos 0) ++ drop n c;
       }

@@ -20,7 +20,7 @@ use Rattle.bitdepth.specs.Depths.{depth, row-range, maximum}
 use Rattle.levels.specs.declared.Plan.{Plan}
 use Rattle.levels.specs.Plans.{plan}
 use Rattle.levels.proofs.Sizes.{plan-of}
-use Rattle.strided.specs.Planes.{spot, spot-outside, lent, place}
+use Rattle.strided.specs.Planes.{lies, spot-outside, place}
 use Rattle.residual.specs.Blocks.{Way, entered, row, middle, column, residual, marked, way, shortcut}
 use Rattle.coefs.specs.Coefs.{nonzero}
 use Rattle.pixels.specs.Adds.{add-pixel}
@@ -60,7 +60,7 @@ stray-alike (live r) p c c′ q = first-ext (p .w * p .h) _ _ (λ i l. ap (λ (z
 
 -- the block with other coefficients and pixels
 abbrev pub other : Block → List ℤ → List ℕ → Block
-other b c ps = record { w = b .w; h = b .h; type = b .type; depth = b .depth; coefs = c; plane = lent ps (b .plane .view) }
+other b c ps = record { w = b .w; h = b .h; type = b .type; depth = b .depth; coefs = c; plane = record { pixels = ps; width = b .plane .width; view = b .plane .view } }
 
 module _ (call : Call) (b : Block) (c : List ℤ) (ps : List ℕ) (alike : (i : ℕ) → i < b .w * b .h → at (b .coefs) i ≡ at c i)
     (as-enough : ltb (length (b .coefs)) (b .w * b .h) ≡ ltb (length c) (b .w * b .h)) (as-many : length (b .plane .pixels) ≡ length ps)
@@ -72,10 +72,10 @@ module _ (call : Call) (b : Block) (c : List ℤ) (ps : List ℕ) (alike : (i : 
       let area : p .w * p .h ≡ b .w * b .h = ap₂ (λ (u v : ℕ). u * v) e f in
       let same : (i : ℕ) → i < p .w * p .h → at (b .coefs) i ≡ at c i = λ i l. alike i (subst (λ (k : ℕ). i < k) area l) in
       let enough = ap when (subst⁻¹ (λ (k : ℕ). ltb (length (b .coefs)) k ≡ ltb (length c) k) area as-enough) in
-      let inside = ap (λ (n : ℕ). when (spot-outside n (spot (b .plane .view)))) as-many in
+      let inside = ap (λ (n : ℕ). when (spot-outside n (lies (b .plane)))) as-many in
       let ranged = first-ext (p .w * p .h) _ _ (λ i l. ap (λ (z : ℤ). outside z (low m) (high m)) (same i l)) in
       let covered = stray-alike call p (b .coefs) c same in
-      let sound = above-alike (maximum d) (b .plane .pixels) ps (spot (b .plane .view)) (p .w) as-visible in
+      let sound = above-alike (maximum d) (b .plane .pixels) ps (lies (b .plane)) (p .w) as-visible in
       Checks.alike (table call b) (table call (other b c ps)) (p, d) (refl, refl, (refl, refl, (refl, enough, (refl, refl, (refl, refl, (refl, inside, (refl, ranged, (refl, covered, (refl, sound, tt)))))))))
 
   pub same-verdict : verdict call b ≡ verdict call (other b c ps)

@@ -16,7 +16,7 @@ use Rattle.itx_1d.specs.Calls.{Answer, acceptance}
 use Rattle.bitdepth.specs.declared.Depth.{Depth}
 use Rattle.bitdepth.specs.Depths.{maximum}
 use Rattle.levels.specs.declared.Plan.{Plan}
-use Rattle.strided.specs.Planes.{spot, begins, place}
+use Rattle.strided.specs.Planes.{lies, begins, place}
 use Rattle.strided.specs.declared.View.{View}
 use Rattle.strided.proofs.Rows.{row-fits, rows-apart}
 use Rattle.residual.specs.Blocks.{residual, marked, way, shortcut}
@@ -70,14 +70,14 @@ module _ (call : Call) (b : Block) (p : Plan) (d : Depth) (a : Accepted call b p
       → getD (outcome call b .pixels) (place (b .plane) y x) 0 ≡ add-pixel (maximum d) (getD (b .plane .pixels) (place (b .plane) y x) 0) (added call b p d y x)
   pixel-rule y x l g =
       ap (λ (ps : List ℕ). getD ps (place (b .plane) y x) 0) pixels-are
-      ∙ pixel-set (maximum d) (b .plane .pixels) (begins (spot v)) (v .columns) (v .rows) (row-fits size (p .w) (p .h) v (a .placed)) (rows-apart size (p .w) (p .h) v (a .placed)) (added call b p d) (v .rows) y x (le-refl _) l g
+      ∙ pixel-set (maximum d) (b .plane .pixels) (begins (lies (b .plane))) (v .columns) (v .rows) (row-fits (b .plane .width) size (p .w) (p .h) v (a .placed)) (rows-apart (b .plane .width) size (p .w) (p .h) v (a .placed)) (added call b p d) (v .rows) y x (le-refl _) l g
 
   -- every other pixel stays, and so does the number of pixels
   pub pixel-stays : (i : ℕ) → ((y x : ℕ) → y < v .rows → x < v .columns → i ≢ place (b .plane) y x) → getD (outcome call b .pixels) i 0 ≡ getD (b .plane .pixels) i 0
-  pixel-stays i f = ap (λ (ps : List ℕ). getD ps i 0) pixels-are ∙ pixel-kept (maximum d) (b .plane .pixels) (begins (spot v)) (added call b p d) (v .columns) (v .rows) i f
+  pixel-stays i f = ap (λ (ps : List ℕ). getD ps i 0) pixels-are ∙ pixel-kept (maximum d) (b .plane .pixels) (begins (lies (b .plane))) (added call b p d) (v .columns) (v .rows) i f
 
   pub pixels-length : length (outcome call b .pixels) ≡ length (b .plane .pixels)
-  pixels-length = ap length pixels-are ∙ rows-length (maximum d) (b .plane .pixels) (begins (spot v)) (added call b p d) (v .columns) (v .rows)
+  pixels-length = ap length pixels-are ∙ rows-length (maximum d) (b .plane .pixels) (begins (lies (b .plane))) (added call b p d) (v .columns) (v .rows)
 
   -- a coefficient past w·h stays
   pub coefficient-stays : (i : ℕ) → p .w * p .h ≤ i → at (outcome call b .coefs) i ≡ at (b .coefs) i

@@ -18,7 +18,7 @@ use Rattle.bitdepth.specs.declared.Depth.{Depth}
 use Rattle.bitdepth.specs.Depths.{maximum}
 use Rattle.levels.specs.declared.Plan.{Plan}
 use Rattle.levels.proofs.Sizes.{Sided, side-bounds, plan-sided}
-use Rattle.strided.specs.Planes.{spot, begins}
+use Rattle.strided.specs.Planes.{lies, begins}
 use Rattle.residual.specs.declared.Engine.{Engine}
 use Rattle.residual.specs.declared.Engine.the-variants.{First}
 use Rattle.residual.specs.Blocks.{way, way-by, residual}
@@ -78,7 +78,7 @@ module _ (b : Block) (p : Plan) (d : Depth) where
       let rs = residual 𝓦 (b .coefs) in
       λ i. record {
         answer = acceptance (marked-same 𝓦 (quiet e p d s) (b .coefs) r l k i);
-        pixels = rows-ext (maximum d) (b .plane .pixels) (begins (spot (b .plane .view))) (rs r) (rs (p .h)) (b .plane .view .columns) (b .plane .view .rows) (λ y x g f. ap (add-pixel (maximum d) _) (residual-same 𝓦 (quiet e p d s) (b .coefs) r l k y x)) i;
+        pixels = rows-ext (maximum d) (b .plane .pixels) (begins (lies (b .plane))) (rs r) (rs (p .h)) (b .plane .view .columns) (b .plane .view .rows) (λ y x g f. ap (add-pixel (maximum d) _) (residual-same 𝓦 (quiet e p d s) (b .coefs) r l k y x)) i;
         coefs = replicate n (pos 0) ++ drop n (b .coefs);
       }
 

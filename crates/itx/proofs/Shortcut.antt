@@ -27,7 +27,7 @@ use Rattle.bitdepth.specs.Depths.{row-range, column-range, maximum}
 use Rattle.levels.specs.declared.Plan.{Plan}
 use Rattle.levels.proofs.Sizes.{Sided, side-bounds}
 use Rattle.strided.specs.declared.View.{View}
-use Rattle.strided.specs.Planes.{spot, begins, place}
+use Rattle.strided.specs.Planes.{lies, begins, place}
 use Rattle.strided.proofs.Rows.{columns-in, rows-in, row-fits, rows-apart}
 use Rattle.residual.specs.Blocks.{Way, way, entered, row, middle, column, residual, marked, prescale, shortcut}
 use Rattle.pixels.specs.Adds.{add-pixel, add-rows}
@@ -170,24 +170,24 @@ module _ (b : Block) (w h s : ℕ) (d : Depth) (good : Accepted (plain (pos 0)) 
 
   -- by number 21
   small : (y x : ℕ) → y < v .rows → x < v .columns → getD (b .plane .pixels) (place (b .plane) y x) 0 ≤ maximum d
-  small = none-above (maximum d) (b .plane .pixels) (spot v) w (columns-in w h v (good .placed .seen) .1) (good .sound)
+  small = none-above (maximum d) (b .plane .pixels) (lies (b .plane)) w (columns-in w h v (good .placed .seen) .1) (good .sound)
 
   pixel-same : (y x : ℕ) → y < v .rows → x < v .columns
-      → let q = getD (add-rows (maximum d) (b .plane .pixels) (begins (spot v)) (residual (way plan-here d) (b .coefs) 1) (v .columns) y) (place (b .plane) y x) 0 in
+      → let q = getD (add-rows (maximum d) (b .plane .pixels) (begins (lies (b .plane))) (residual (way plan-here d) (b .coefs) 1) (v .columns) y) (place (b .plane) y x) 0 in
       add-pixel (maximum d) q (shortcut plan-here (at (b .coefs) 0)) ≡ add-pixel (maximum d) q (residual (way plan-here d) (b .coefs) 1 y x)
   unfolding Rattle.residual.specs.Blocks.shortcut
   pixel-same y x k l =
       let rs = residual (way plan-here d) (b .coefs) 1 in
-      let q = getD (add-rows (maximum d) (b .plane .pixels) (begins (spot v)) rs (v .columns) y) (place (b .plane) y x) 0 in
+      let q = getD (add-rows (maximum d) (b .plane .pixels) (begins (lies (b .plane))) rs (v .columns) y) (place (b .plane) y x) 0 in
       let n = length (b .plane .pixels) in
-      let waits = pixel-waits (maximum d) (b .plane .pixels) (begins (spot v)) (v .columns) (v .rows) (row-fits n w h v (good .placed)) (rows-apart n w h v (good .placed)) rs y x k l in
+      let waits = pixel-waits (maximum d) (b .plane .pixels) (begins (lies (b .plane))) (v .columns) (v .rows) (row-fits (b .plane .width) n w h v (good .placed)) (rows-apart (b .plane .width) n w h v (good .placed)) rs y x k l in
       sym (saturates d q (subst (λ (n : ℕ). n ≤ maximum d) (sym waits) (small y x k l)) (round2 (level (prescale w h (at (b .coefs) 0))) s))
       ∙ ap (add-pixel (maximum d) q) (sym (residual-is w h s (sided .0) (sided .1) d (b .coefs) first-inside alone y x (omega (arith, k, rows-in w h v (good .placed .seen) .1)) (omega (arith, l, columns-in w h v (good .placed .seen) .1))))
 
   one-pass : by-shortcut b plan-here d ≡ by-passes b plan-here d (way plan-here d) 1
   one-pass = λ i. record {
     answer = acceptance (sym (unmarked w h s (sided .0) (sided .1) d (b .coefs) first-inside alone) i);
-    pixels = rows-ext (maximum d) (b .plane .pixels) (begins (spot v)) (λ y x. shortcut plan-here (at (b .coefs) 0)) (residual (way plan-here d) (b .coefs) 1) (v .columns) (v .rows) pixel-same i;
+    pixels = rows-ext (maximum d) (b .plane .pixels) (begins (lies (b .plane))) (λ y x. shortcut plan-here (at (b .coefs) 0)) (residual (way plan-here d) (b .coefs) 1) (v .columns) (v .rows) pixel-same i;
     coefs = cleared (w * h) (b .coefs) area-pos (ltb-false _ _ (good .enough)) alone i;
   }
 

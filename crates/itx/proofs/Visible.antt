@@ -18,7 +18,8 @@ use Rattle.levels.specs.declared.Plan.{Plan}
 use Rattle.levels.specs.Plans.{plan}
 use Rattle.levels.proofs.Sizes.{side-bounds, plan-of, plan-sided}
 use Rattle.strided.specs.declared.View.{View}
-use Rattle.strided.specs.Planes.{Plane, whole, in-pixels, bad-view, bad-stride, not-in, rows-outside, starts, spot, begins, place, Spotted}
+use Rattle.strided.specs.Planes.{Plane, whole, in-pixels, bad-view, bad-stride, not-in, rows-outside, starts, spot, lies, begins, place, Spotted}
+use Rattle.strided.specs.declared.Width.the-variants.{Wide}
 use Rattle.strided.proofs.Rows.{columns-in, rows-in, all-inside}
 use Rattle.pixels.specs.Adds.{add-pixel}
 use Rattle.pixels.specs.Above.{first-above}
@@ -47,12 +48,12 @@ module _ (call : Call) (b : Block) (p : Plan) (d : Depth) (good : Accepted call 
 
 -- ---- the padded plane
 
-half : (w : ℕ) → in-pixels (pos (2 * w)) ≡ pos w
+half : (w : ℕ) → in-pixels Wide (pos (2 * w)) ≡ pos w
 unfolding Rattle.whole.specs.Numbers._>>_
 half w = ap pos (omega arith)
 
 -- row y of it starts at y·w
-row-start : (w h y : ℕ) → begins (spot (whole w h)) y ≡ y * w
+row-start : (w h y : ℕ) → begins (spot Wide (whole w h)) y ≡ y * w
 row-start w h y = let zero-first : 0 + y * w ≡ y * w = omega arith in ap (λ (s : ℤ). natAbs (starts 0 s y)) (half w) ∙ zero-first
 
 -- all columns and rows are visible
@@ -65,7 +66,7 @@ module _ (w h : ℕ) (wide : 1 ≤ w) (tall : 1 ≤ h) (a : Plane) where
   even : eqb (natAbs (pos (2 * w)) % 2) 1 ≡ false
   even = let e : 2 * w % 2 ≡ 0 = omega arith in ap (λ (n : ℕ). eqb n 1) e
 
-  padded-spotted : Spotted (length (padded a w h .pixels)) w h (whole w h)
+  padded-spotted : Spotted Wide (length (padded a w h .pixels)) w h (whole w h)
   padded-spotted = record {
     seen = all-seen w h (whole w h) wide tall refl refl;
     stride = (λ i. even i || ltb (natAbs (half w i)) w) ∙ le-ltb w w (omega arith);
@@ -110,10 +111,10 @@ module _ (call : Call) (b : Block) (p : Plan) (d : Depth) (good : Accepted call 
   sides-positive = let s = sides b p d call good in (omega (arith, side-bounds (p .w) (s .0) .0), omega (arith, side-bounds (p .h) (s .1) .0))
 
   -- what is padded is 0, so 21 does not hold there either
-  padded-sound : first-above (maximum d) (pad .pixels) (spot (pad .view)) (p .w) ≡ none
+  padded-sound : first-above (maximum d) (pad .pixels) (lies pad) (p .w) ≡ none
   padded-sound =
-      let visible = none-above (maximum d) (b .plane .pixels) (spot v) (p .w) (columns-in (p .w) (p .h) v (good .placed .seen) .1) (good .sound) in
-      no-above (maximum d) (pad .pixels) (spot (pad .view)) (p .w) (omega arith)
+      let visible = none-above (maximum d) (b .plane .pixels) (lies (b .plane)) (p .w) (columns-in (p .w) (p .h) v (good .placed .seen) .1) (good .sound) in
+      no-above (maximum d) (pad .pixels) (lies pad) (p .w) (omega arith)
       (λ y x l m. subst⁻¹ (λ (q : ℕ). q ≤ maximum d) (padded-pixel (p .w) (p .h) (sides-positive .0) (sides-positive .1) (b .plane) y x l m)
       (shown-small (p .w) (p .h) (sides-positive .0) (sides-positive .1) (b .plane) (maximum d) visible y x))
 
@@ -159,8 +160,8 @@ module _ (call : Call) (b : Block) (columns : b .plane .view .columns ≡ b .w) 
         let u = b .plane .view in
         let n = length (b .plane .pixels) in
         λ i. unless-at (when (bad-eob call)) 4 (unless-at (when (bad-rows call (p .h))) 5 (unless-at (when (ltb (length (b .coefs)) (p .w * p .h))) 6 (unless-at (when (seen i)) 20
-        (unless-at (when (bad-stride (p .w) (u .stride .0))) 7 (unless-at (when (rows-outside n (u .offset) (in-pixels (u .stride .0)) (c i) (r i))) 8
-        (judged (range-line (b .coefs) ∷ stray-line call (b .coefs) ∷ pixel-line (b .plane .pixels) u ∷ []) (p, d)))))))
+        (unless-at (when (bad-stride (b .plane .width) (p .w) (u .stride .0))) 7 (unless-at (when (rows-outside n (u .offset) (in-pixels (b .plane .width) (u .stride .0)) (c i) (r i))) 8
+        (judged (range-line (b .coefs) ∷ stray-line call (b .coefs) ∷ pixel-line (b .plane .pixels) (lies (b .plane)) ∷ []) (p, d)))))))
 
   -- the same refusals
   pub verdict-whole : verdict call b ≡ verdict-01 call b

@@ -10,9 +10,8 @@ use Rattle.whole.specs.Checks.{Check, accept, refuse}
 use Rattle.bitdepth.specs.declared.Depth.{Depth}
 use Rattle.bitdepth.specs.Depths.{maximum}
 use Rattle.levels.specs.declared.Plan.{Plan}
-use Rattle.strided.specs.Planes.{Plane, spot, begins, spot-outside}
+use Rattle.strided.specs.Planes.{Plane, begins, spot-outside}
 use Rattle.strided.specs.declared.Spot.{Spot}
-use Rattle.strided.specs.declared.View.{View}
 use Rattle.pixels.specs.Adds.{add-rows}
 use Rattle.pixels.specs.Inner.{Looking}
 use Rattle.residual.specs.declared.Engine.{Engine}
@@ -74,11 +73,11 @@ Asked (Go p d) = (p .w ≤ 32) × (p .h ≤ 32)
 Asked (At p d s) = ⊥
 Asked (Stop r) = Unit {0}
 
--- .. and afterwards: the spot is the view asked for
-abbrev pub Lies : View → Verdict → Type 0
-Lies v (Go p d) = ⊥
-Lies v (At p d s) = s ≡ spot v
-Lies v (Stop r) = Unit {0}
+-- .. and afterwards: the spot is the one asked for
+abbrev pub Lies : Spot → Verdict → Type 0
+Lies t (Go p d) = ⊥
+Lies t (At p d s) = s ≡ t
+Lies t (Stop r) = Unit {0}
 
 abbrev pub Enough : ℕ → Verdict → Type 0
 Enough count (Go p d) = ⊥

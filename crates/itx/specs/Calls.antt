@@ -20,8 +20,10 @@ use Rattle.levels.specs.Plans.{plan}
 use Rattle.coefs.specs.Coefs.{in-dead-row}
 use Rattle.pixels.specs.Adds.{add-rows}
 use Rattle.pixels.specs.Above.{first-above}
-use Rattle.strided.specs.Planes.{Plane, spot, begins, bad-view, bad-stride, spot-outside}
+use Rattle.strided.specs.Planes.{Plane, spot, lies, begins, bad-view, bad-stride, spot-outside}
+use Rattle.strided.specs.declared.Spot.{Spot}
 use Rattle.strided.specs.declared.View.{View}
+use Rattle.strided.specs.declared.Width.{Width}
 use Rattle.residual.specs.Blocks.{Way, residual, marked, way, shortcut}
 
 pub record Block : Type 0 where
@@ -67,11 +69,11 @@ rows-line call = (5, λ a. when (bad-rows call (a .0 .h)))
 abbrev pub count-line : ℕ → Line (Plan × Depth)
 count-line count = (6, λ a. when (ltb count (a .0 .w * a .0 .h)))
 
-abbrev pub plane-lines : ℕ → View → List (Line (Plan × Depth))
-plane-lines size v =
+abbrev pub plane-lines : Width → ℕ → View → List (Line (Plan × Depth))
+plane-lines k size v =
     (20, λ a. when (bad-view (a .0 .w) (a .0 .h) v))
-    ∷ (7, λ a. when (bad-stride (a .0 .w) (v .stride .0)))
-    ∷ (8, λ a. when (spot-outside size (spot v)))
+    ∷ (7, λ a. when (bad-stride k (a .0 .w) (v .stride .0)))
+    ∷ (8, λ a. when (spot-outside size (spot k v)))
     ∷ []
 
 abbrev pub range-line : List ℤ → Line (Plan × Depth)
@@ -81,8 +83,8 @@ abbrev pub stray-line : Call → List ℤ → Line (Plan × Depth)
 stray-line call c = (10, λ a. stray call (a .0) c)
 
 -- number 21 (E6): "a visible pixel above the depth's maximum .. with the first one's place"
-abbrev pub pixel-line : List ℕ → View → Line (Plan × Depth)
-pixel-line ps v = (21, λ a. first-above (maximum (a .1)) ps (spot v) (a .0 .w))
+abbrev pub pixel-line : List ℕ → Spot → Line (Plan × Depth)
+pixel-line ps s = (21, λ a. first-above (maximum (a .1)) ps s (a .0 .w))
 
 -- number 3
 abbrev pub with-depth : ℕ → Plan → Check (Plan × Depth)
@@ -96,7 +98,7 @@ module _ (call : Call) (b : Block) where
   abbrev pub table : List (Line (Plan × Depth))
   table =
       let c = b .coefs in
-      eob-line call ∷ rows-line call ∷ count-line (length c) ∷ plane-lines (length (b .plane .pixels)) (b .plane .view) ++ range-line c ∷ stray-line call c ∷ pixel-line (b .plane .pixels) (b .plane .view) ∷ []
+      eob-line call ∷ rows-line call ∷ count-line (length c) ∷ plane-lines (b .plane .width) (length (b .plane .pixels)) (b .plane .view) ++ range-line c ∷ stray-line call c ∷ pixel-line (b .plane .pixels) (lies (b .plane)) ∷ []
 
   -- "Checked in this order; the first that applies is answered, and none otherwise."
   abbrev pub checked : Check Plan → Check (Plan × Depth)
@@ -130,7 +132,7 @@ live-rows (live r) p = r
 
 -- step 6, and "only visible pixels are read and written" (E5): v y x is added to the visible pixel of row y, column x
 abbrev pub painted : ℕ → Plane → (ℕ → ℕ → ℤ) → List ℕ
-painted top a v = add-rows top (a .pixels) (begins (spot (a .view))) v (a .view .columns) (a .view .rows)
+painted top a v = add-rows top (a .pixels) (begins (lies a)) v (a .view .columns) (a .view .rows)
 
 module _ (b : Block) (p : Plan) (d : Depth) where
   -- what is added, with the mark and the coefficients that are left

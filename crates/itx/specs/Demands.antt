@@ -13,7 +13,7 @@ use Rattle.bitdepth.specs.Depths.{depth, maximum}
 use Rattle.levels.specs.declared.Plan.{Plan}
 use Rattle.levels.specs.Plans.{plan}
 use Rattle.coefs.specs.Coefs.{Covers}
-use Rattle.strided.specs.Planes.{Spotted, spot}
+use Rattle.strided.specs.Planes.{Spotted, lies}
 use Rattle.pixels.specs.Above.{first-above}
 use Rattle.residual.specs.Blocks.{way}
 use Rattle.itx.specs.Calls.{Block, Call, plain, live, bad-eob, bad-rows, out-of-range, stray, Outcome, short, by-passes}
@@ -25,10 +25,10 @@ pub record Accepted (call : Call) (b : Block) (p : Plan) (d : Depth) : Type 0 wh
   pub eob : bad-eob call ≡ false
   pub rows : bad-rows call (p .h) ≡ false
   pub enough : ltb (length (b .coefs)) (p .w * p .h) ≡ false
-  pub placed : Spotted (length (b .plane .pixels)) (p .w) (p .h) (b .plane .view)
+  pub placed : Spotted (b .plane .width) (length (b .plane .pixels)) (p .w) (p .h) (b .plane .view)
   pub ranged : out-of-range (p, d) (b .coefs) ≡ none
   pub covered : stray call p (b .coefs) ≡ none
-  pub sound : first-above (maximum d) (b .plane .pixels) (spot (b .plane .view)) (p .w) ≡ none
+  pub sound : first-above (maximum d) (b .plane .pixels) (lies (b .plane)) (p .w) ≡ none
 
 module _ (b : Block) (p : Plan) where
   -- nothing is nonzero after the first coefficient

@@ -11,7 +11,7 @@ use Rattle.bitdepth.specs.declared.Depth.{Depth}
 use Rattle.levels.specs.declared.Plan.{Plan}
 use Rattle.levels.specs.Plans.{plan}
 use Rattle.strided.specs.declared.View.{View}
-use Rattle.strided.specs.Planes.{Plane, lent, whole, in-pixels, bad-stride, rows-outside, spot, begins, place}
+use Rattle.strided.specs.Planes.{Plane, lent, whole, in-pixels, bad-stride, rows-outside, lies, begins, place}
 use Rattle.pixels.specs.Adds.{add-rows}
 use Rattle.itx.specs.Calls.{Block, Call, eob-line, rows-line, count-line, range-line, stray-line, pixel-line, with-depth}
 
@@ -39,11 +39,11 @@ module _ (call : Call) (b : Block) where
       eob-line call
       ∷ rows-line call
       ∷ count-line (length (b .coefs))
-      ∷ (7, λ a. when (bad-stride (a .0 .w) (v .stride .0)))
-      ∷ (8, λ a. when (rows-outside (length (b .plane .pixels)) (v .offset) (in-pixels (v .stride .0)) (a .0 .w) (a .0 .h)))
+      ∷ (7, λ a. when (bad-stride (b .plane .width) (a .0 .w) (v .stride .0)))
+      ∷ (8, λ a. when (rows-outside (length (b .plane .pixels)) (v .offset) (in-pixels (b .plane .width) (v .stride .0)) (a .0 .w) (a .0 .h)))
       ∷ range-line (b .coefs)
       ∷ stray-line call (b .coefs)
-      ∷ pixel-line (b .plane .pixels) v
+      ∷ pixel-line (b .plane .pixels) (lies (b .plane))
       ∷ []
 
   abbrev pub verdict-01 : Check (Plan × Depth)
@@ -51,4 +51,4 @@ module _ (call : Call) (b : Block) where
 
 -- step 6: u y x is added to the pixel of row y, column x, for y < h and x < w
 abbrev pub painted-01 : ℕ → Plane → ℕ → ℕ → (ℕ → ℕ → ℤ) → List ℕ
-painted-01 top a w h u = add-rows top (a .pixels) (begins (spot (a .view))) u w h
+painted-01 top a w h u = add-rows top (a .pixels) (begins (lies a)) u w h

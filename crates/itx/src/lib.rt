@@ -4,8 +4,9 @@ ghost use mathlib.Core.Bool.{false};
 ghost use Prim.Native.Nat.{ℕ, _*_, _≤_};
 ghost use lib.ListN.{length};
 ghost use mathlib.Core.List.{[], _∷_};
-ghost use Rattle.strided.specs.declared.View.{View};
-ghost use Rattle.strided.specs.Planes.{lent};
+ghost use Rattle.strided.specs.declared.Spot.{Spot};
+ghost use Rattle.strided.specs.declared.Width.the-variants.{Wide};
+ghost use Rattle.strided.specs.Planes.{spot, lent};
 ghost use Rattle.whole.specs.Checks.{then, judged};
 ghost use Rattle.levels.specs.Plans as Plans;
 ghost use Rattle.itx_1d.specs.Manners.{is-adst};
@@ -37,6 +38,7 @@ use residual::shortcut;
 use strided::Spot;
 use strided::SpotCheck;
 use strided::View;
+use strided::Width;
 
 // Document 01, "Numbers of refusal", 1 to 10, 20 of request E5 and 21 of E6, in the order of the checks.
 pub enum Refusal {
@@ -206,16 +208,16 @@ fn check_count(before: Verdict, count: usize) -> Verdict
 }
 
 // Numbers 20, 7 and 8.
-fn check_plane(before: Verdict, size: usize, view: View) -> Verdict
+fn check_plane(before: Verdict, width: Width, size: usize, view: View) -> Verdict
     requires { ⌜ Asked before ⌝ }
-    ensures { λ r. ⌜ (verdict-of r ≡ then (verdict-of before) (judged (Calls.plane-lines size view))) × Lies view r × Looks size r ⌝ }
+    ensures { λ r. ⌜ (verdict-of r ≡ then (verdict-of before) (judged (Calls.plane-lines width size view))) × Lies (spot width view) r × Looks size r ⌝ }
 {
     let Verdict::Go(plan, depth) = before else {
         return before;
     };
     let w = plan.w;
     let h = plan.h;
-    let found = view.spot(size, w, h);
+    let found = view.spot(width, size, w, h);
     match found {
         SpotCheck::Found(spot) => Verdict::At(plan, depth, spot),
         SpotCheck::NotVisible => Verdict::Stop(Refusal::NotVisible),
@@ -262,7 +264,7 @@ fn check_stray(before: Verdict, coeff: &[i32], r: usize) -> Verdict
 // Number 21.
 fn check_pixels(before: Verdict, dst: &[u16]) -> Verdict
     requires { ⌜ Looks (length (now dst)) before ⌝ }
-    ensures { λ r. ⌜ ((v : View) → Lies v before → verdict-of r ≡ then (verdict-of before) (judged (Calls.pixel-line (now (dst .entry)) v ∷ []))) × Handed before r ⌝ }
+    ensures { λ r. ⌜ ((s : Spot) → Lies s before → verdict-of r ≡ then (verdict-of before) (judged (Calls.pixel-line (now (dst .entry)) s ∷ []))) × Handed before r ⌝ }
 {
     let Verdict::At(plan, depth, spot) = before else {
         return before;
@@ -348,12 +350,12 @@ fn check_plain(
     txtp: usize,
     depth: usize,
 ) -> Verdict
-    ensures { λ r. ⌜ (verdict-of r ≡ Calls.verdict (Calls.plain eob) (block w h txtp depth (now (coeff .entry)) (lent (now (dst .entry)) view))) × Lies view r ⌝ }
+    ensures { λ r. ⌜ (verdict-of r ≡ Calls.verdict (Calls.plain eob) (block w h txtp depth (now (coeff .entry)) (lent (now (dst .entry)) view))) × Lies (spot Wide view) r ⌝ }
 {
     let kind = check_kind(w, h, txtp, depth);
     let known = check_eob(kind, eob);
     let counted = check_count(known, coeff.len());
-    let placed = check_plane(counted, dst.len(), view);
+    let placed = check_plane(counted, Width::Wide, dst.len(), view);
     let ranged = check_range(placed, coeff);
     check_pixels(ranged, dst)
 }
@@ -369,12 +371,12 @@ fn check_live(
     txtp: usize,
     depth: usize,
 ) -> Verdict
-    ensures { λ v. ⌜ (verdict-of v ≡ Calls.verdict (Calls.live r) (block w h txtp depth (now (coeff .entry)) (lent (now (dst .entry)) view))) × Lies view v ⌝ }
+    ensures { λ v. ⌜ (verdict-of v ≡ Calls.verdict (Calls.live r) (block w h txtp depth (now (coeff .entry)) (lent (now (dst .entry)) view))) × Lies (spot Wide view) v ⌝ }
 {
     let kind = check_kind(w, h, txtp, depth);
     let known = check_rows(kind, r);
     let counted = check_count(known, coeff.len());
-    let placed = check_plane(counted, dst.len(), view);
+    let placed = check_plane(counted, Width::Wide, dst.len(), view);
     let ranged = check_range(placed, coeff);
     let covered = check_stray(ranged, coeff, r);
     check_pixels(covered, dst)

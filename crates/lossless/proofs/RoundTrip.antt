@@ -20,7 +20,7 @@ use Rattle.whole.proofs.Counts.{any-none, first-none, none-first}
 use Rattle.whole.proofs.Sizes.{abs-neg}
 use Rattle.bitdepth.specs.declared.Depth.{Depth}
 use Rattle.bitdepth.specs.Depths.{depth, row-range, maximum}
-use Rattle.strided.specs.Planes.{Plane, Spotted, spot, place}
+use Rattle.strided.specs.Planes.{Plane, Spotted, lies, place}
 use Rattle.pixels.proofs.Above.{no-above}
 use Rattle.strided.proofs.Rows.{columns-in, rows-in}
 use Rattle.residual.specs.Blocks.{way, entered, row, middle, column, residual, shortcut}
@@ -150,7 +150,7 @@ module _ (r c c′ : List ℤ) (n : ℕ) (w : Meets (written r c n) Done c′) (
   long = ap length elements-are ∙ over-length 16 (coefficient r) c (known .0)
 
   -- a block of type 16 with these coefficients, on any plane that holds its visible part, none of it above the maximum, with any eob from 0 up
-  module _ (plane : Plane) (placed : Spotted (length (plane .pixels)) 4 4 (plane .view))
+  module _ (plane : Plane) (placed : Spotted (plane .width) (length (plane .pixels)) 4 4 (plane .view))
       (dim : (y x : ℕ) → y < plane .view .rows → x < plane .view .columns → getD (plane .pixels) (place plane y x) 0 ≤ maximum d) (e : ℕ) where
     abbrev pub sent : Block
     sent = block 4 4 16 n c′ plane
@@ -165,7 +165,7 @@ module _ (r c c′ : List ℤ) (n : ℕ) (w : Meets (written r c n) Done c′) (
       placed = placed;
       ranged = none-first 16 _ (λ i l. ap (λ (v : ℤ). outside v (low (row-range d)) (high (row-range d))) (held i l) ∙ in-row-range d r (known .1) i l);
       covered = refl;
-      sound = no-above (maximum d) (plane .pixels) (spot (plane .view)) 4 (columns-in 4 4 (plane .view) (placed .seen) .1) dim;
+      sound = no-above (maximum d) (plane .pixels) (lies plane) 4 (columns-in 4 4 (plane .view) (placed .seen) .1) dim;
     }
 
     pub sent-done : outcome (plain (pos e)) sent .answer ≡ acceptance false

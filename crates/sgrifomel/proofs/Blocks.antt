@@ -17,7 +17,7 @@ use Rattle.levels.specs.declared.Plan.{Plan}
 use Rattle.levels.proofs.Types.{by-types}
 use Rattle.levels.specs.Plans.{among, shift-0, shift-1, shift-2, shift-of, kinds-of, with-kinds, with-shift, plan}
 use Rattle.levels.proofs.Sizes.{side-bounds, plan-sided}
-use Rattle.strided.specs.Planes.{bad-view, bad-stride, row-outside, spot}
+use Rattle.strided.specs.Planes.{bad-view, bad-stride, row-outside, lies}
 use Rattle.strided.proofs.Rows.{rows-in}
 use Rattle.pixels.specs.Above.{first-above}
 use Rattle.itx_1d.specs.Calls.{Answer}
@@ -60,7 +60,7 @@ stray-below (live r) p c l i e = omega (arith, first-below (p .w * p .h) _ i e)
 module _ (call : Call) (b : Block) where
   -- row·w + column is below h·w, since no more rows are visible
   pixel-below : (p : Plan) (d : Depth) → bad-view (p .w) (p .h) (b .plane .view) ≡ false → p .w * p .h ≤ 1024
-      → (i : ℕ) → first-above (maximum d) (b .plane .pixels) (spot (b .plane .view)) (p .w) ≡ some i → i < 1024
+      → (i : ℕ) → first-above (maximum d) (b .plane .pixels) (lies (b .plane)) (p .w) ≡ some i → i < 1024
   pixel-below p d seen l i e =
       omega (arith, first-below (b .plane .view .rows * p .w) _ i e, mul-le-mul-right {m = b .plane .view .rows} {n = p .h} (p .w) (rows-in (p .w) (p .h) (b .plane .view) seen .1))
 
@@ -73,11 +73,11 @@ module _ (call : Call) (b : Block) where
       small-when (bad-rows call (p .h)) 5 _ (λ _.
       small-when (ltb (length c) n) 6 _ (λ _.
       small-when (bad-view (p .w) (p .h) v) 20 _ (λ seen.
-      small-when (bad-stride (p .w) (v .stride .0)) 7 _ (λ _.
+      small-when (bad-stride (b .plane .width) (p .w) (v .stride .0)) 7 _ (λ _.
       small-when (row-outside (b .plane)) 8 _ (λ _.
       small-at (out-of-range (p, d) c) 9 _ (λ i e. omega (arith, first-below n _ i e))
       (small-at (stray call p c) 10 _ (stray-below call p c l)
-      (small-at (first-above (maximum d) (b .plane .pixels) (spot v) (p .w)) 21 (accept (p, d)) (pixel-below p d seen l) tt))))))))
+      (small-at (first-above (maximum d) (b .plane .pixels) (lies (b .plane)) (p .w)) 21 (accept (p, d)) (pixel-below p d seen l) tt))))))))
 
   small-checked : (k : Check Plan) → Small k → ((p : Plan) → k ≡ accept p → p .w * p .h ≤ 1024) → Small (checked call b k)
   small-checked (refuse n i) s l = s

@@ -3,12 +3,12 @@ use mathlib.Core.Path.{_≡_, refl, sym, ap, _∙_, subst, subst⁻¹}
 use mathlib.Core.Logic.{_≢_, _⊎_, ⊎-elim}
 use mathlib.Core.Bool.{Bool, true, false, not, _&&_}
 use mathlib.Core.List.{List, []}
-use Prim.Native.Nat.{ℕ, suc, _+_, _-_, _*_, _%_, _≤_, _<_}
+use Prim.Native.Nat.{ℕ, suc, _+_, _-_, _*_, _≤_, _<_}
 use native.Mathlib.Nat.{mul-le-mul-right}
 use native.Mathlib.Omega.{arith}
 use borrow.Author.Tests.{ltb-true, ltb-false, leb-true, le-leb, lt-leb}
 use denote.Ref.{RefT}
-use lib.Dec.{eqb, ltb, leb}
+use lib.Dec.{ltb, leb}
 use lib.IntN.{ℤ, pos, negsuc, natAbs}
 use lib.ListN.{getD, length, take, drop, length-drop}
 use lib.Seq.{getD-take, getD-drop, length-take-le}
@@ -20,9 +20,10 @@ use Rattle.whole.proofs.Counts.{any-none, any-found, none-of-any}
 use Rattle.whole.proofs.Parts.{pp, nn, Rep, abs-parts, rep-self, rep-add, rep-mul}
 use Rattle.levels.specs.Plans.{shift-of}
 use Rattle.strided.specs.declared.Part.{Part}
+use Rattle.strided.specs.declared.Width.{Width}
 use Rattle.strided.specs.declared.Spot.{Spot}
 use Rattle.strided.specs.declared.View.{View}
-use Rattle.strided.specs.Planes.{in-pixels, starts, within, rows-outside, not-in, bad-view, spot, begins, spot-outside, spotted, Spotted, Plane, place, accepted, part-when, has-row, IsPart}
+use Rattle.strided.specs.Planes.{odd, bytes-of, in-pixels, starts, within, rows-outside, not-in, bad-view, spot, begins, spot-outside, spotted, Spotted, Plane, place, accepted, part-when, has-row, IsPart}
 
 and-true : (s t : Bool) → s && t ≡ true → (s ≡ true) × (t ≡ true)
 and-true true t e = (refl, e)
@@ -124,25 +125,25 @@ pub row-here : (size : ℕ) (s : Spot) → spot-outside size s ≡ false → (y 
     → (nn (starts (s .offset) (s .stride .0) y) ≡ 0) × (begins s y + s .columns ≤ size)
 row-here size s e y l = row-within size (s .offset) (s .stride .0) (s .columns) (s .rows) e y l
 
-pub spotted-by : (size w h : ℕ) (v : View) (s : Spot) → spotted size w h v ≡ accept s → Spotted size w h v × (s ≡ spot v)
-spotted-by size w h v s e =
+pub spotted-by : (k : Width) (size w h : ℕ) (v : View) (s : Spot) → spotted k size w h v ≡ accept s → Spotted k size w h v × (s ≡ spot k v)
+spotted-by k size w h v s e =
     let e20 = open-unless _ 20 _ s e in
     let e7 = open-unless _ 7 _ s (e20 .1) in
     let e8 = open-unless _ 8 _ s (e7 .1) in
-    (record { seen = e20 .0; stride = e7 .0; inside = e8 .0 }, sym (same-accept (spot v) s (e8 .1)))
+    (record { seen = e20 .0; stride = e7 .0; inside = e8 .0 }, sym (same-accept (spot k v) s (e8 .1)))
 
-module _ (size w h : ℕ) (v : View) (k : Spotted size w h v) where
-  pub spotting : spotted size w h v ≡ accept (spot v)
-  spotting = λ i. unless (k .seen i) 20 (unless (k .stride i) 7 (unless (k .inside i) 8 (accept (spot v))))
+module _ (wd : Width) (size w h : ℕ) (v : View) (k : Spotted wd size w h v) where
+  pub spotting : spotted wd size w h v ≡ accept (spot wd v)
+  spotting = λ i. unless (k .seen i) 20 (unless (k .stride i) 7 (unless (k .inside i) 8 (accept (spot wd v))))
 
-  pub row-fits : (y : ℕ) → y < v .rows → begins (spot v) y + v .columns ≤ size
-  row-fits y l = row-here size (spot v) (k .inside) y l .1
+  pub row-fits : (y : ℕ) → y < v .rows → begins (spot wd v) y + v .columns ≤ size
+  row-fits y l = row-here size (spot wd v) (k .inside) y l .1
 
-  pub rows-apart : (y u x t : ℕ) → y < u → u < v .rows → x < v .columns → t < v .columns → begins (spot v) y + x ≢ begins (spot v) u + t
+  pub rows-apart : (y u x t : ℕ) → y < u → u < v .rows → x < v .columns → t < v .columns → begins (spot wd v) y + x ≢ begins (spot wd v) u + t
   rows-apart y u x t l g m n e =
-      let s = in-pixels (v .stride .0) in
-      let wide : w ≤ natAbs s = ltb-false _ _ (or-false (eqb (natAbs (v .stride .0) % 2) 1) (ltb (natAbs s) w) (k .stride) .1) in
-      let here = row-here size (spot v) (k .inside) in
+      let s = in-pixels wd (v .stride .0) in
+      let wide : w ≤ natAbs s = ltb-false _ _ (or-false (odd wd (v .stride .0)) (ltb (natAbs s) w) (k .stride) .1) in
+      let here = row-here size (spot wd v) (k .inside) in
       apart-by (v .offset) (v .columns) y u s (omega (arith, wide, columns-in w h v (k .seen) .1)) l x t m n (here y (omega arith) .0) (here u g .0) e
 
 -- ---- the row lookup
@@ -159,10 +160,10 @@ module _ (a : Plane) (w h y : ℕ) where
   size = length (a .pixels)
 
   abbrev has-it : Bool
-  has-it = has-row size v w h y
+  has-it = has-row (a .width) size v w h y
 
   abbrev found : Bool → Part
-  found t = part-when t v y
+  found t = part-when t (a .width) v y
 
   abbrev handed : List ℕ
   handed = take (found has-it .size) (drop (found has-it .from) (a .pixels))
@@ -176,19 +177,19 @@ module _ (a : Plane) (w h y : ℕ) where
   -- none of 1, 20, 7 and 8 holds, and the row is visible
   pub record Has : Type 0 where
     pub sized : accepted (shift-of w h) ≡ true
-    pub there : Spotted size w h v
+    pub there : Spotted (a .width) size w h v
     pub below : y < v .rows
 
   pub has : has-it ≡ true → Has
   has e =
       let p = and-true (accepted (shift-of w h)) _ e in
-      let q = and-true (accepted (spotted size w h v)) (ltb y (v .rows)) (p .1) in
-      let k = is-accepted (spotted size w h v) (q .0) in
-      record { sized = p .0; there = spotted-by size w h v (k .0) (k .1) .0; below = ltb-true y (v .rows) (q .1) }
+      let q = and-true (accepted (spotted (a .width) size w h v)) (ltb y (v .rows)) (p .1) in
+      let k = is-accepted (spotted (a .width) size w h v) (q .0) in
+      record { sized = p .0; there = spotted-by (a .width) size w h v (k .0) (k .1) .0; below = ltb-true y (v .rows) (q .1) }
 
   module _ (e : has-it ≡ true) where
     fits : place a y (v .columns) ≤ size
-    fits = row-fits size w h v (has e .there) y (has e .below)
+    fits = row-fits (a .width) size w h v (has e .there) y (has e .below)
 
     -- and some of it is there
     pub some : 1 ≤ v .columns
@@ -197,12 +198,12 @@ module _ (a : Plane) (w h y : ℕ) where
     pub row-length : length handed ≡ v .columns
     row-length =
         ap length (by-test e)
-        ∙ length-take-le (v .columns) (drop (begins (spot v) y) (a .pixels)) (omega (arith, fits, length-drop (begins (spot v) y) (a .pixels)))
+        ∙ length-take-le (v .columns) (drop (begins (spot (a .width) v) y) (a .pixels)) (omega (arith, fits, length-drop (begins (spot (a .width) v) y) (a .pixels)))
 
     pub row-pixel : (x : ℕ) → x < v .columns → getD handed x 0 ≡ getD (a .pixels) (place a y x) 0
     row-pixel x l =
         ap (λ (ps : List ℕ). getD ps x 0) (by-test e)
-        ∙ getD-take (v .columns) (drop (begins (spot v) y) (a .pixels)) x 0 l ∙ getD-drop (begins (spot v) y) (a .pixels) x 0
+        ∙ getD-take (v .columns) (drop (begins (spot (a .width) v) y) (a .pixels)) x 0 l ∙ getD-drop (begins (spot (a .width) v) y) (a .pixels) x 0
 
   -- in any case the part is inside
   pub part-fits : {p : Part} → p ≡ found has-it → p .from + p .size ≤ size
@@ -213,8 +214,8 @@ module _ (a : Plane) (w h y : ℕ) where
       go false e = omega arith
 
 -- a slice cut from one place to another is the part between them
-pub is-part : (s r : RefT (List ℕ)) {p q : Part} → p ≡ q → r .ptr .0 ≡ s .ptr .0 → r .ptr .1 ≡ s .ptr .1 + p .from * 2
-    → r .now ≡ take (p .from + p .size - p .from) (drop (p .from) (s .now)) → IsPart s r q
-is-part s r {p} e a b c =
+pub is-part : (k : Width) (s r : RefT (List ℕ)) {p q : Part} → p ≡ q → r .ptr .0 ≡ s .ptr .0 → r .ptr .1 ≡ s .ptr .1 + p .from * bytes-of k
+    → r .now ≡ take (p .from + p .size - p .from) (drop (p .from) (s .now)) → IsPart k s r q
+is-part k s r {p} e a b c =
     let n : p .from + p .size - p .from ≡ p .size = omega arith in
-    subst (IsPart s r) e (record { slice = a; at = b; elements = c ∙ ap (λ (n : ℕ). take n (drop (p .from) (s .now))) n })
+    subst (IsPart k s r) e (record { slice = a; at = b; elements = c ∙ ap (λ (n : ℕ). take n (drop (p .from) (s .now))) n })

@@ -9,6 +9,7 @@ use lib.IntN.{ℤ}
 use Rattle.whole.specs.Checks.{Check, accept, refuse}
 use Rattle.whole.proofs.Checks.{one-answer}
 use Rattle.strided.specs.declared.Part.{Part}
+use Rattle.strided.specs.declared.Width.{Width}
 use Rattle.strided.specs.declared.RowsCheck.{RowsCheck}
 use Rattle.strided.specs.declared.RowsCheck.the-variants.{Inside, Outside}
 use Rattle.strided.specs.declared.Spot.{Spot}
@@ -27,8 +28,8 @@ stride-back-is : (r : StrideCheck) → stride-back (stride-check r) ≡ r
 stride-back-is (Pixels s) = refl
 stride-back-is Refused = refl
 
-pub one-stride : (w : ℕ) (bytes : ℤ) (r r′ : StrideCheck) → stride-check r ≡ turned w bytes → stride-check r′ ≡ turned w bytes → r ≡ r′
-one-stride w bytes r r′ = one-answer stride-check stride-back stride-back-is
+pub one-stride : (k : Width) (w : ℕ) (bytes : ℤ) (r r′ : StrideCheck) → stride-check r ≡ turned k w bytes → stride-check r′ ≡ turned k w bytes → r ≡ r′
+one-stride k w bytes r r′ = one-answer stride-check stride-back stride-back-is
 
 abbrev rows-back : Check (Unit {0}) → RowsCheck
 rows-back (accept t) = Inside
@@ -51,9 +52,9 @@ spot-back-is NotVisible = refl
 spot-back-is BadStride = refl
 spot-back-is RowOutside = refl
 
-pub one-spot : (size w h : ℕ) (v : View) (r r′ : SpotCheck) → spot-check r ≡ spotted size w h v → spot-check r′ ≡ spotted size w h v → r ≡ r′
-one-spot size w h v r r′ = one-answer spot-check spot-back spot-back-is
+pub one-spot : (k : Width) (size w h : ℕ) (v : View) (r r′ : SpotCheck) → spot-check r ≡ spotted k size w h v → spot-check r′ ≡ spotted k size w h v → r ≡ r′
+one-spot k size w h v r r′ = one-answer spot-check spot-back spot-back-is
 
 -- what row and row_mut hand back points to one place and holds one list
-pub one-row : (s r r′ : RefT (List ℕ)) (p : Part) → IsPart s r p → IsPart s r′ p → (r .ptr .0 ≡ r′ .ptr .0) × (r .ptr .1 ≡ r′ .ptr .1) × (r .now ≡ r′ .now)
-one-row s r r′ p a a′ = (a .slice ∙ sym (a′ .slice), a .at ∙ sym (a′ .at), a .elements ∙ sym (a′ .elements))
+pub one-row : (k : Width) (s r r′ : RefT (List ℕ)) (p : Part) → IsPart k s r p → IsPart k s r′ p → (r .ptr .0 ≡ r′ .ptr .0) × (r .ptr .1 ≡ r′ .ptr .1) × (r .now ≡ r′ .now)
+one-row k s r r′ p a a′ = (a .slice ∙ sym (a′ .slice), a .at ∙ sym (a′ .at), a .elements ∙ sym (a′ .elements))

@@ -14,6 +14,8 @@ use Rattle.whole.specs.Checks.{Check, accept, refuse, unless}
 use Rattle.levels.specs.Plans.{shift-of}
 use Rattle.strided.specs.declared.Part.{Part}
 use Rattle.strided.specs.declared.View.{View}
+use Rattle.strided.specs.declared.Width.{Width}
+use Rattle.strided.specs.declared.Width.the-variants.{Wide, Narrow}
 use Rattle.strided.specs.declared.Spot.{Spot}
 use Rattle.strided.specs.declared.SpotCheck.{SpotCheck}
 use Rattle.strided.specs.declared.SpotCheck.the-variants.{Found, NotVisible, BadStride, RowOutside}
@@ -24,13 +26,22 @@ use Rattle.strided.specs.declared.StrideCheck.the-variants.{Pixels, Refu
 
 -- ---- strides and rows
 
--- a stride counted in bytes: "it is turned once, by 2 bytes a pixel at every depth"
-abbrev pub in-pixels : ℤ → ℤ
-in-pixels bytes = bytes >> 1
+-- a stride counted in bytes: "it is turned once, by 2 bytes a pixel at every depth", and "one byte a pixel" in the narrow form (E2)
+abbrev pub in-pixels : Width → ℤ → ℤ
+in-pixels Wide bytes = bytes >> 1
+in-pixels Narrow bytes = bytes
 
--- number 7: "byte stride odd, or pixel stride between -(w-1) and w-1"
-abbrev pub bad-stride : ℕ → ℤ → Bool
-bad-stride w bytes = eqb (natAbs bytes % 2) 1 || ltb (natAbs (in-pixels bytes)) w
+abbrev pub odd : Width → ℤ → Bool
+odd Wide bytes = eqb (natAbs bytes % 2) 1
+odd Narrow bytes = false
+
+abbrev pub bytes-of : Width → ℕ
+bytes-of Wide = 2
+bytes-of Narrow = 1
+
+-- number 7: "byte stride odd, or pixel stride between -(w-1) and w-1"; "an odd stride never occur[s] in this variant" (E2)
+abbrev pub bad-stride : Width → ℕ → ℤ → Bool
+bad-stride k w bytes = odd k bytes || ltb (natAbs (in-pixels k bytes)) w
 
 -- "Row y starts at offset + y·(pixel stride)."
 abbrev pub starts : ℕ → ℤ → ℕ → ℤ
@@ -54,8 +65,8 @@ abbrev pub bad-view : ℕ → ℕ → View → Bool
 bad-view w h v = not-in w (v .columns) || not-in h (v .rows)
 
 -- the view with its stride in pixels
-abbrev pub spot : View → Spot
-spot v = record { offset = v .offset; stride = record { 0 = in-pixels (v .stride .0) }; columns = v .columns; rows = v .rows }
+abbrev pub spot : Width → View → Spot
+spot k v = record { offset = v .offset; stride = record { 0 = in-pixels k (v .stride .0) }; columns = v .columns; rows = v .rows }
 
 -- a spot with so many columns
 abbrev pub wide : Spot → ℕ → Spot
@@ -70,38 +81,46 @@ abbrev pub spot-outside : ℕ → Spot → Bool
 spot-outside size s = rows-outside size (s .offset) (s .stride .0) (s .columns) (s .rows)
 
 -- numbers 20, 7 and 8 of a view in a slice of so many pixels
-abbrev pub spotted : ℕ → ℕ → ℕ → View → Check Spot
-spotted size w h v =
+abbrev pub spotted : Width → ℕ → ℕ → ℕ → View → Check Spot
+spotted k size w h v =
     unless (bad-view w h v) 20
-    (unless (bad-stride w (v .stride .0)) 7
-    (unless (spot-outside size (spot v)) 8
-    (accept (spot v))))
+    (unless (bad-stride k w (v .stride .0)) 7
+    (unless (spot-outside size (spot k v)) 8
+    (accept (spot k v))))
 
 -- numbers 20, 7 and 8 do not hold
-pub record Spotted (size w h : ℕ) (v : View) : Type 0 where
+pub record Spotted (k : Width) (size w h : ℕ) (v : View) : Type 0 where
   pub seen : bad-view w h v ≡ false
-  pub stride : bad-stride w (v .stride .0) ≡ false
-  pub inside : spot-outside size (spot v) ≡ false
+  pub stride : bad-stride k w (v .stride .0) ≡ false
+  pub inside : spot-outside size (spot k v) ≡ false
 
 -- "a lent slice, an offset in pixels .. and a stride", which counts bytes, and "the number of visible columns and rows" (E5)
 pub record Plane : Type 0 where
   pub pixels : List ℕ
+  pub width : Width
   pub view : View
 
--- a slice that is lent with a view
+-- a slice of 16-bit pixels, and one of 8-bit pixels, that is lent with a view
 abbrev pub lent : List ℕ → View → Plane
-lent pixels view = record { pixels = pixels; view = view }
+lent pixels view = record { pixels = pixels; width = Wide; view = view }
+
+abbrev pub lent-8 : List ℕ → View → Plane
+lent-8 pixels view = record { pixels = pixels; width = Narrow; view = view }
+
+-- where the block lies
+abbrev pub lies : Plane → Spot
+lies a = spot (a .width) (a .view)
 
 -- the view of a slice that is the block's own pixels, row by row, all visible
 abbrev pub whole : ℕ → ℕ → View
 whole w h = record { offset = 0; stride = record { 0 = pos (2 * w) }; columns = w; rows = h }
 
 abbrev pub row-outside : Plane → Bool
-row-outside a = spot-outside (length (a .pixels)) (spot (a .view))
+row-outside a = spot-outside (length (a .pixels)) (lies a)
 
 -- where the pixel of row y, column x stands
 abbrev pub place : Plane → ℕ → ℕ → ℕ
-place a y x = begins (spot (a .view)) y + x
+place a y x = begins (lies a) y + x
 
 -- ---- the row lookup
 
@@ -110,21 +129,21 @@ accepted (accept a) = true
 accepted (refuse n i) = false
 
 -- "an empty part exactly when number 1, 7 or 8 holds", "also for 20 or an invisible row" (E5): whether a slice of so many pixels has the row
-abbrev pub has-row : ℕ → View → ℕ → ℕ → ℕ → Bool
-has-row size v w h y = accepted (shift-of w h) && (accepted (spotted size w h v) && ltb y (v .rows))
+abbrev pub has-row : Width → ℕ → View → ℕ → ℕ → ℕ → Bool
+has-row k size v w h y = accepted (shift-of w h) && (accepted (spotted k size w h v) && ltb y (v .rows))
 
--- where it stands: "the visible part of a visible row" (E5)
-abbrev pub part-when : Bool → View → ℕ → Part
-part-when true v y = record { from = begins (spot v) y; size = v .columns }
-part-when false v y = record { from = 0; size = 0 }
+-- where it stands: "the visible part of a visible row"
+abbrev pub part-when : Bool → Width → View → ℕ → Part
+part-when true k v y = record { from = begins (spot k v) y; size = v .columns }
+part-when false k v y = record { from = 0; size = 0 }
 
-abbrev pub row-part : ℕ → View → ℕ → ℕ → ℕ → Part
-row-part size v w h y = part-when (has-row size v w h y) v y
+abbrev pub row-part : Width → ℕ → View → ℕ → ℕ → ℕ → Part
+row-part k size v w h y = part-when (has-row k size v w h y) k v y
 
--- "it hands back the .. pixels of row y themselves, as that part of the lent plane": r points into s, at two bytes a pixel, and holds what stands there
-pub record IsPart (s r : RefT (List ℕ)) (p : Part) : Type 0 where
+-- "the .. pixels of row y themselves, as that part of the lent plane": r points into s, at so many bytes a pixel, and holds what stands there
+pub record IsPart (k : Width) (s r : RefT (List ℕ)) (p : Part) : Type 0 where
   pub slice : r .ptr .0 ≡ s .ptr .0
-  pub at : r .ptr .1 ≡ s .ptr .1 + p .from * 2
+  pub at : r .ptr .1 ≡ s .ptr .1 + p .from * bytes-of k
   pub elements : r .now ≡ take (p .size) (drop (p .from) (s .now))
 
 -- ---- what the answers say, in the table's numbers
@@ -133,8 +152,8 @@ abbrev pub stride-check : StrideCheck → Check ℤ
 stride-check (Pixels s) = accept (s .0)
 stride-check Refused = refuse 7 0
 
-abbrev pub turned : ℕ → ℤ → Check ℤ
-turned w bytes = unless (bad-stride w bytes) 7 (accept (in-pixels bytes))
+abbrev pub turned : Width → ℕ → ℤ → Check ℤ
+turned k w bytes = unless (bad-stride k w bytes) 7 (accept (in-pixels k bytes))
 
 abbrev pub rows-check : RowsCheck → Check (Unit {0})
 rows-check Inside = accept tt

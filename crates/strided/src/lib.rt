@@ -3,6 +3,7 @@ ghost use mathlib.Core.Path.{_≡_};
 ghost use lib.IntN.{natAbs};
 ghost use lib.ListN.{length};
 ghost use Rattle.whole.specs.Checks.{accept, unless};
+ghost use Rattle.strided.specs.declared.Width.the-variants.{Wide, Narrow};
 ghost use Rattle.strided.specs.Planes.{stride-check, turned, starts, rows-check, rows-outside, spot-check, spotted, wide, row-part, IsPart};
 use levels::SizeCheck;
 use levels::size_shift;
@@ -11,6 +12,12 @@ use levels::size_shift;
 pub struct ByteStride(pub i32);
 
 pub struct PixelStride(pub i32);
+
+// How wide a pixel is: two bytes, or one.
+pub enum Width {
+    Wide,
+    Narrow,
+}
 
 // The stride in pixels, or number 7 of the refusals.
 pub enum StrideCheck {
@@ -64,8 +71,20 @@ fn distance(v: i32) -> usize
 }
 
 impl ByteStride {
-    pub fn in_pixels(self, w: usize) -> StrideCheck
-        ensures { λ r. ⌜ stride-check r ≡ turned w (self .0) ⌝ }
+    // One byte a pixel.
+    fn as_pixels(self, w: usize) -> StrideCheck
+        ensures { λ r. ⌜ stride-check r ≡ turned Narrow w (self .0) ⌝ }
+    {
+        let pixels = self.0;
+        if distance(pixels) < w {
+            return StrideCheck::Refused;
+        }
+        StrideCheck::Pixels(PixelStride(pixels))
+    }
+
+    // Two bytes a pixel.
+    fn half_pixels(self, w: usize) -> StrideCheck
+        ensures { λ r. ⌜ stride-check r ≡ turned Wide w (self .0) ⌝ }
     {
         let bytes = self.0;
         if bytes % 2 != 0 {
@@ -76,6 +95,15 @@ impl ByteStride {
             return StrideCheck::Refused;
         }
         StrideCheck::Pixels(PixelStride(pixels))
+    }
+
+    pub fn in_pixels(self, width: Width, w: usize) -> StrideCheck
+        ensures { λ r. ⌜ stride-check r ≡ turned width w (self .0) ⌝ }
+    {
+        match width {
+            Width::Wide => self.half_pixels(w),
+            Width::Narrow => self.as_pixels(w),
+        }
     }
 }
 
@@ -132,8 +160,8 @@ impl Spot {
 
 impl View {
     // Numbers 20, 7 and 8. The stride is turned here, once.
-    pub fn spot(self, size: usize, w: usize, h: usize) -> SpotCheck
-        ensures { λ r. ⌜ spot-check r ≡ spotted size w h self ⌝ }
+    pub fn spot(self, width: Width, size: usize, w: usize, h: usize) -> SpotCheck
+        ensures { λ r. ⌜ spot-check r ≡ spotted width size w h self ⌝ }
     {
         let offset = self.offset;
         let stride = self.stride;
@@ -142,7 +170,7 @@ impl View {
         if ((columns < 1) | (w < columns)) | ((rows < 1) | (h < rows)) {
             return SpotCheck::NotVisible;
         }
-        let StrideCheck::Pixels(pixels) = stride.in_pixels(w) else {
+        let StrideCheck::Pixels(pixels) = stride.in_pixels(width, w) else {
             return SpotCheck::BadStride;
         };
         let RowsCheck::Inside = pixels.rows(size, offset, columns, rows) else {
@@ -158,14 +186,14 @@ impl View {
 }
 
 // Where the visible part of row y stands in a slice of this size, or an empty part.
-fn lookup(size: usize, view: View, w: usize, h: usize, y: usize) -> Part
-    ensures { λ r. ⌜ r ≡ row-part size view w h y ⌝ }
+fn lookup(width: Width, size: usize, view: View, w: usize, h: usize, y: usize) -> Part
+    ensures { λ r. ⌜ r ≡ row-part width size view w h y ⌝ }
 {
     let none = Part { from: 0, size: 0 };
     let SizeCheck::Shift(_) = size_shift(w, h) else {
         return none;
     };
-    let SpotCheck::Found(spot) = view.spot(size, w, h) else {
+    let SpotCheck::Found(spot) = view.spot(width, size, w, h) else {
         return none;
     };
     let rows = spot.rows;
@@ -183,9 +211,9 @@ fn lookup(size: usize, view: View, w: usize, h: usize, y: usize) -> Part
 
 // The visible part of row y of a block, as that part of the plane, or an empty part.
 pub fn row<'a>(dst: &'a [u16], view: View, w: usize, h: usize, y: usize) -> &'a [u16]
-    ensures { λ r. ⌜ IsPart (dst .entry) r (row-part (length (now (dst .entry))) view w h y) ⌝ }
+    ensures { λ r. ⌜ IsPart Wide (dst .entry) r (row-part Wide (length (now (dst .entry))) view w h y) ⌝ }
 {
-    let part = lookup(dst.len(), view, w, h, y);
+    let part = lookup(Width::Wide, dst.len(), view, w, h, y);
     let from = part.from;
     let end = from + part.size;
     &dst[from..end]
@@ -193,9 +221,9 @@ pub fn row<'a>(dst: &'a [u16], view: View, w: usize, h: usize, y: usize) -> &'a 
 
 // The same of a plane that can be written.
 pub fn row_mut<'a>(dst: &'a mut [u16], view: View, w: usize, h: usize, y: usize) -> &'a mut [u16]
-    ensures { λ r. ⌜ IsPart (dst .entry) r (row-part (length (now (dst .entry))) view w h y) ⌝ }
+    ensures { λ r. ⌜ IsPart Wide (dst .entry) r (row-part Wide (length (now (dst .entry))) view w h y) ⌝ }
 {
-    let part = lookup(dst.len(), view, w, h, y);
+    let part = lookup(Width::Wide, dst.len(), view, w, h, y);
     let from = part.from;
     let end = from + part.size;
     &mut dst[from..end]

@@ -6,6 +6,8 @@ use lib.ListN.{length}
 use Rattle.whole.specs.Checks.{Check, then, Line, judged}
 use Rattle.whole.proofs.Checks.{further}
 use Rattle.bitdepth.specs.declared.Depth.{Depth}
+use Rattle.strided.specs.declared.Width.the-variants.{Wide}
+use Rattle.strided.specs.Planes.{spot}
 use Rattle.levels.specs.declared.Plan.{Plan}
 use Rattle.levels.specs.Plans.{plan}
 use Rattle.itx.specs.Calls.{live, rows-line, count-line, plane-lines, range-line, stray-line, pixel-line, with-depth}
@@ -28,7 +30,7 @@ abbrev counted : tie.Start → Line (Plan × Depth)
 counted s = count-line (length (s .args .coeff .now))
 
 abbrev lying : tie.Start → List (Line (Plan × Depth))
-lying s = plane-lines (length (s .args .dst .now)) (s .args .view)
+lying s = plane-lines Wide (length (s .args .dst .now)) (s .args .view)
 
 rows-known : (o : tie.After-check-rows) → let s = o .before .before .before in verdict-of (o .check-rows .result) ≡ then (known s) (judged (own s ∷ []))
 rows-known o = let s = o .before .before .before in o .check-rows .ensures .0 ∙ ap (λ k. then k (judged (own s ∷ []))) (o .before .check-kind .ensures .0)
@@ -42,10 +44,10 @@ module _ (o : tie.After-check-plane) where
       further (own begun ∷ counted begun ∷ []) (lying begun) (known begun) (further (own begun ∷ []) (counted begun ∷ []) (known begun) (rows-known (o .before .before)) (o .before .check-count .ensures .0)) (o .check-plane .ensures .0)
 
   enough : Enough (length (begun .args .coeff .now)) (o .check-plane .result)
-  enough = let s = begun in Chain.enough (known s) (lying s) (s .args .view) (own s) (length (s .args .coeff .now)) (o .check-plane .result) (o .check-plane .ensures .1) plane-known
+  enough = let s = begun in Chain.enough (known s) (lying s) (spot Wide (s .args .view)) (own s) (length (s .args .coeff .now)) (o .check-plane .result) (o .check-plane .ensures .1) plane-known
 
   rows-in : RowsIn (begun .args .r) (o .check-plane .result)
-  rows-in = let s = begun in Chain.rows-in (known s) (counted s ∷ lying s) (s .args .view) (s .args .r) (o .check-plane .result) (o .check-plane .ensures .1) plane-known
+  rows-in = let s = begun in Chain.rows-in (known s) (counted s ∷ lying s) (spot Wide (s .args .view)) (s .args .r) (o .check-plane .result) (o .check-plane .ensures .1) plane-known
 
 -- what the searches hand on
 module _ (F : Verdict → Type 0) (stops : (x : Refusal) → F (Stop x)) where
@@ -61,7 +63,7 @@ returns c =
     let r = t .before in
     let o = r .before in
     let s = begun o in
-    let v = s .args .view in
+    let v = spot Wide (s .args .view) in
     let ranged = range-line (s .args .coeff .now) in
     let covered = stray-line (live (s .args .r)) (s .args .coeff .now) in
     let sound = pixel-line (s .args .dst .now) v in

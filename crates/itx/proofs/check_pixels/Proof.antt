@@ -11,7 +11,6 @@ use Rattle.coefs.specs.declared.Found.{Found}
 use Rattle.coefs.specs.Coefs.{found}
 use Rattle.levels.specs.declared.Plan.{Plan}
 use Rattle.strided.specs.declared.Spot.{Spot}
-use Rattle.strided.specs.declared.View.{View}
 use Rattle.pixels.specs.Above.{first-above}
 use Rattle.itx.specs.declared.Verdict.the-variants.{At}
 use Rattle.itx.specs.Calls.{pixel-line}
@@ -39,7 +38,7 @@ module _ (o : tie.After-known-told) where
 
   -- with what the search found
   decided : {k : Option ℕ} → k ≡ first-above (maximum d) (begun .args .dst .now) s (p .w)
-      → (v : View) → Lies v (begun .args .before) → unless-at k 21 (accept (p, d)) ≡ then (verdict-of (begun .args .before)) (judged (pixel-line (begun .args .dst .now) v ∷ []))
+      → (v : Spot) → Lies v (begun .args .before) → unless-at k 21 (accept (p, d)) ≡ then (verdict-of (begun .args .before)) (judged (pixel-line (begun .args .dst .now) v ∷ []))
   decided q v l =
       decides (begun .args .before) (pixel-line (begun .args .dst .now) v) (ap verdict-of is-at)
       (q ∙ ap (λ (t : Spot). first-above (maximum d) (begun .args .dst .now) t (p .w)) (subst (Lies v) is-at l))

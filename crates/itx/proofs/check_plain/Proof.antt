@@ -9,6 +9,8 @@ use borrow.Author.Needs.{needs}
 use Rattle.whole.specs.Checks.{Check, then, Line, judged}
 use Rattle.whole.proofs.Checks.{further}
 use Rattle.bitdepth.specs.declared.Depth.{Depth}
+use Rattle.strided.specs.declared.Width.the-variants.{Wide}
+use Rattle.strided.specs.Planes.{spot}
 use Rattle.levels.specs.declared.Plan.{Plan}
 use Rattle.levels.specs.Plans.{plan}
 use Rattle.itx.specs.Calls.{plain, eob-line, count-line, plane-lines, range-line, pixel-line, with-depth}
@@ -31,7 +33,7 @@ abbrev counted : tie.Start → Line (Plan × Depth)
 counted s = count-line (length (s .args .coeff .now))
 
 abbrev lying : tie.Start → List (Line (Plan × Depth))
-lying s = plane-lines (length (s .args .dst .now)) (s .args .view)
+lying s = plane-lines Wide (length (s .args .dst .now)) (s .args .view)
 
 eob-known : (o : tie.After-check-eob) → let s = o .before .before .before in verdict-of (o .check-eob .result) ≡ then (known s) (judged (own s ∷ []))
 eob-known o =
@@ -58,7 +60,7 @@ returns c =
     let r = c .before in
     let o = r .before in
     let s = begun o in
-    let v = s .args .view in
+    let v = spot Wide (s .args .view) in
     let ranged = range-line (s .args .coeff .now) in
     let sound = pixel-line (s .args .dst .now) v in
     let front = own s ∷ counted s ∷ lying s in
@@ -75,6 +77,6 @@ check-plain-spec =
     (λ c κs. c .check-kind .ensures .1)
     (λ c κs. c .check-eob .ensures .1)
     (λ c κs. c .check-count .ensures .1)
-    (λ c κs. let s = begun c in Chain.enough (known s) (lying s) (s .args .view) (own s) (length (s .args .coeff .now)) (c .check-plane .result) (c .check-plane .ensures .1) (plane-known c))
+    (λ c κs. let s = begun c in Chain.enough (known s) (lying s) (spot Wide (s .args .view)) (own s) (length (s .args .coeff .now)) (c .check-plane .result) (c .check-plane .ensures .1) (plane-known c))
     (λ c κs. still c (Looks _) (λ x. tt) (c .before .check-plane .ensures .2))
     returns)

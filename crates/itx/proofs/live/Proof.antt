@@ -3,6 +3,7 @@ use mathlib.Core.Path.{_≡_, refl, sym, ap, _∙_, subst}
 use borrow.Author.Needs.{needs}
 use Rattle.bitdepth.specs.declared.Depth.{Depth}
 use Rattle.levels.specs.declared.Plan.{Plan}
+use Rattle.strided.specs.declared.Width.the-variants.{Wide}
 use Rattle.strided.specs.Planes.{spot, lent}
 use Rattle.itx.specs.Calls.{Block, live, verdict}
 use Rattle.itx.specs.Answers.{verdict-of, block, Lies, Ready}
@@ -35,8 +36,8 @@ module _ (k : tie.After-checked2) where
   accepted : Demands.Accepted (live (begun k .args .r)) (given (begun k)) p d
   accepted = accepted-by (live (begun k .args .r)) (given (begun k)) p d (checked (k .before .before) ∙ ap verdict-of (k .checked2 .given .1))
 
-  turned : k .checked2 .given .0 .1 .1 .0 ≡ spot (begun k .args .view)
-  turned = subst (Lies (begun k .args .view)) (k .checked2 .given .1) (k .before .before .check-live .ensures .1)
+  turned : k .checked2 .given .0 .1 .1 .0 ≡ spot Wide (begun k .args .view)
+  turned = subst (Lies (spot Wide (begun k .args .view))) (k .checked2 .given .1) (k .before .before .check-live .ensures .1)
 
   ready : Ready p (k .checked2 .given .0 .1 .1 .0) (begun k .args .dst .now) (begun k .args .coeff .now)
   ready = let s = begun k .args in Accepted.ready (s .engine) (live (s .r)) (given (begun k)) p d accepted _ turned
@@ -54,7 +55,7 @@ refusal c =
 never : tie.Need-returns-2
 never c =
     let o = c .before .before in
-    absurd (subst (Lies (o .before .before .before .before .args .view)) (c .enum-told .given .1) (o .check-live .ensures .1))
+    absurd (subst (Lies (spot Wide (o .before .before .before .before .args .view))) (c .enum-told .given .1) (o .check-live .ensures .1))
 
 returns : tie.Need-returns-3
 returns c =

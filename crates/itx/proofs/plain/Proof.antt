@@ -7,6 +7,7 @@ use mir.ValLaws.{toZ-ofZ}
 use borrow.Author.Needs.{needs}
 use Rattle.bitdepth.specs.declared.Depth.{Depth}
 use Rattle.levels.specs.declared.Plan.{Plan}
+use Rattle.strided.specs.declared.Width.the-variants.{Wide}
 use Rattle.strided.specs.Planes.{spot, lent}
 use Rattle.itx.specs.Calls.{Block, plain, short, verdict}
 use Rattle.itx.specs.Answers.{verdict-of, block, Lies, Ready}
@@ -41,8 +42,8 @@ module _ (k : tie.After-checked2) where
   accepted : Demands.Accepted (plain (begun k .args .eob)) (given (begun k)) p d
   accepted = accepted-by (plain (begun k .args .eob)) (given (begun k)) p d (checked (k .before .before) ∙ ap verdict-of (k .checked2 .given .1))
 
-  turned : k .checked2 .given .0 .1 .1 .0 ≡ spot (begun k .args .view)
-  turned = subst (Lies (begun k .args .view)) (k .checked2 .given .1) (k .before .before .check-plain .ensures .1)
+  turned : k .checked2 .given .0 .1 .1 .0 ≡ spot Wide (begun k .args .view)
+  turned = subst (Lies (spot Wide (begun k .args .view))) (k .checked2 .given .1) (k .before .before .check-plain .ensures .1)
 
   ready : Ready p (k .checked2 .given .0 .1 .1 .0) (begun k .args .dst .now) (begun k .args .coeff .now)
   ready = let s = begun k .args in Accepted.ready (s .engine) (plain (s .eob)) (given (begun k)) p d accepted _ turned
@@ -60,7 +61,7 @@ refusal c =
 never : tie.Need-returns-3
 never c =
     let o = c .before .before in
-    absurd (subst (Lies (o .before .before .before .before .args .view)) (c .enum-told .given .1) (o .check-plain .ensures .1))
+    absurd (subst (Lies (spot Wide (o .before .before .before .before .args .view))) (c .enum-told .given .1) (o .check-plain .ensures .1))
 
 -- which way it went
 way-is : (o : tie.After-is-short) {t : Bool} → o .is-short .result ≡ t → short (plain (begun (o .before .before) .args .eob)) (p (o .before .before)) ≡ t

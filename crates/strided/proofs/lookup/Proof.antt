@@ -32,10 +32,10 @@ module _ (s : tie.Start) where
   abbrev v : View
   v = s .args .view
 
-  by-tests : {p q t : Bool} → accepted (shift-of (s .args .w) (s .args .h)) ≡ p → accepted (spotted (s .args .size) (s .args .w) (s .args .h) v) ≡ q
+  by-tests : {p q t : Bool} → accepted (shift-of (s .args .w) (s .args .h)) ≡ p → accepted (spotted (s .args .width) (s .args .size) (s .args .w) (s .args .h) v) ≡ q
       → ltb (s .args .y) (v .rows) ≡ t
-      → part-when (p && (q && t)) v (s .args .y) ≡ row-part (s .args .size) v (s .args .w) (s .args .h) (s .args .y)
-  by-tests e f g = sym (λ i. part-when (e i && (f i && g i)) v (s .args .y))
+      → part-when (p && (q && t)) (s .args .width) v (s .args .y) ≡ row-part (s .args .width) (s .args .size) v (s .args .w) (s .args .h) (s .args .y)
+  by-tests e f g = sym (λ i. part-when (e i && (f i && g i)) (s .args .width) v (s .args .y))
 
 returns : tie.Need-returns
 returns c =
@@ -76,17 +76,17 @@ module _ (c : tie.After-known-told) where
   abbrev found : Spot
   found = c .before .spot2 .given .0 .0
 
-  spotted-is : spotted (s .args .size) (s .args .w) (s .args .h) (v s) ≡ accept found
+  spotted-is : spotted (s .args .width) (s .args .size) (s .args .w) (s .args .h) (v s) ≡ accept found
   spotted-is = sym (c .before .before .before .spot .ensures) ∙ ap spot-check (c .before .spot2 .given .1)
 
-  view-is : Spotted (s .args .size) (s .args .w) (s .args .h) (v s) × (found ≡ spot (v s))
-  view-is = spotted-by (s .args .size) (s .args .w) (s .args .h) (v s) found spotted-is
+  view-is : Spotted (s .args .width) (s .args .size) (s .args .w) (s .args .h) (v s) × (found ≡ spot (s .args .width) (v s))
+  view-is = spotted-by (s .args .width) (s .args .size) (s .args .w) (s .args .h) (v s) found spotted-is
 
   rows-are : v s .rows ≡ found .rows
   rows-are = ap (λ (a : Spot). a .rows) (sym (view-is .1))
 
   decided : {t : Bool} → ltb (s .args .y) (found .rows) ≡ t
-      → part-when t (v s) (s .args .y) ≡ row-part (s .args .size) (v s) (s .args .w) (s .args .h) (s .args .y)
+      → part-when t (s .args .width) (v s) (s .args .y) ≡ row-part (s .args .width) (s .args .size) (v s) (s .args .w) (s .args .h) (s .args .y)
   decided e = by-tests s (ap accepted (shift-is sized)) (ap accepted spotted-is) (ap (ltb (s .args .y)) rows-are ∙ e)
 
 returns-3 : tie.Need-returns-3
@@ -98,7 +98,7 @@ module _ (c : tie.Else1) where
   k = c .before
 
   abbrev at : Spot
-  at = spot (v (s k))
+  at = spot (s k .args .width) (v (s k))
 
   below : s k .args .y < at .rows
   below = omega (arith, rows-are k, c .if1 .left)

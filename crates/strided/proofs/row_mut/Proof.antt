@@ -4,6 +4,7 @@ use Prim.Native.Nat.{_+_, _≤_}
 use native.Mathlib.Omega.{arith}
 use borrow.Author.Needs.{needs}
 use lib.ListN.{length}
+use Rattle.strided.specs.declared.Width.the-variants.{Wide}
 use Rattle.strided.specs.Planes.{lent}
 use Rattle.strided.proofs.Rows.{part-fits, is-part}
 use Rattle.strided.proofs.row_mut.Statement.{statement}
@@ -23,4 +24,4 @@ row-mut-spec =
     (λ c. search needs)
     (λ c. search needs)
     (λ c. inside (c .before))
-    (λ c. let l = c .before .before in is-part (l .before .before .args .dst) _ (l .lookup .ensures) refl (omega arith) refl))
+    (λ c. let l = c .before .before in is-part Wide (l .before .before .args .dst) _ (l .lookup .ensures) refl (omega arith) refl))

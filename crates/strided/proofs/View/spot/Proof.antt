@@ -15,10 +15,10 @@ module _ (s : tie.Start) where
   abbrev v : View
   v = s .args .self
 
-  by-tests : {p q r : Bool} → bad-view (s .args .w) (s .args .h) v ≡ p → bad-stride (s .args .w) (v .stride .0) ≡ q
-      → spot-outside (s .args .size) (spot v) ≡ r
-      → unless p 20 (unless q 7 (unless r 8 (accept (spot v)))) ≡ spotted (s .args .size) (s .args .w) (s .args .h) v
-  by-tests e f g = sym (λ i. unless (e i) 20 (unless (f i) 7 (unless (g i) 8 (accept (spot v)))))
+  by-tests : {p q r : Bool} → bad-view (s .args .w) (s .args .h) v ≡ p → bad-stride (s .args .width) (s .args .w) (v .stride .0) ≡ q
+      → spot-outside (s .args .size) (spot (s .args .width) v) ≡ r
+      → unless p 20 (unless q 7 (unless r 8 (accept (spot (s .args .width) v)))) ≡ spotted (s .args .width) (s .args .size) (s .args .w) (s .args .h) v
+  by-tests e f g = sym (λ i. unless (e i) 20 (unless (f i) 7 (unless (g i) 8 (accept (spot (s .args .width) v)))))
 
 returns : tie.Need-returns
 returns c = by-tests (c .before .before) (c .if1 .taken) refl refl
@@ -28,7 +28,7 @@ returns-2 c =
     let o = c .before .before in
     let s = o .before .before .before in
     by-tests s (o .before .if1 .left)
-    (refused-by _ 7 (in-pixels (v s .stride .0)) (sym (o .in-pixels .ensures) ∙ ap stride-check (c .enum-told .given .1))) refl
+    (refused-by _ 7 (in-pixels (s .args .width) (v s .stride .0)) (sym (o .in-pixels .ensures) ∙ ap stride-check (c .enum-told .given .1))) refl
 
 -- after the stride
 module _ (c : tie.After-rows) where
@@ -41,16 +41,16 @@ module _ (c : tie.After-rows) where
   abbrev outside : ℤ → Bool
   outside z = rows-outside (s .args .size) (v s .offset) z (v s .columns) (v s .rows)
 
-  opened : (bad-stride (s .args .w) (v s .stride .0) ≡ false) × (accept (in-pixels (v s .stride .0)) ≡ accept pixels)
+  opened : (bad-stride (s .args .width) (s .args .w) (v s .stride .0) ≡ false) × (accept (in-pixels (s .args .width) (v s .stride .0)) ≡ accept pixels)
   opened =
-      open-unless (bad-stride (s .args .w) (v s .stride .0)) 7 (accept (in-pixels (v s .stride .0))) pixels
+      open-unless (bad-stride (s .args .width) (s .args .w) (v s .stride .0)) 7 (accept (in-pixels (s .args .width) (v s .stride .0))) pixels
       (sym (c .before .before .before .before .in-pixels .ensures) ∙ ap stride-check (c .before .before .pixels .given .1))
 
-  pixels-are : in-pixels (v s .stride .0) ≡ pixels
-  pixels-are = same-accept (in-pixels (v s .stride .0)) pixels (opened .1)
+  pixels-are : in-pixels (s .args .width) (v s .stride .0) ≡ pixels
+  pixels-are = same-accept (in-pixels (s .args .width) (v s .stride .0)) pixels (opened .1)
 
   -- the view was seen, and number 8 is judged by the stride in pixels
-  judged : {t : Bool} → outside pixels ≡ t → unless t 8 (accept (spot (v s))) ≡ spotted (s .args .size) (s .args .w) (s .args .h) (v s)
+  judged : {t : Bool} → outside pixels ≡ t → unless t 8 (accept (spot (s .args .width) (v s))) ≡ spotted (s .args .width) (s .args .size) (s .args .w) (s .args .h) (v s)
   judged e = by-tests s (c .before .before .before .before .before .if1 .left) (opened .0) (ap outside pixels-are ∙ e)
 
 returns-3 : tie.Need-returns-3
