@@ -112,7 +112,7 @@ abbrev by : Head → ℤ → View
 by h stride = record { offset = 0; stride = record { 0 = stride }; columns = h .w; rows = h .h }
 
 pub acted-by : {h : Head} {cs cs′ : List ℤ} {ps ps′ : List ℕ} {stride eob : ℤ} {a : Answer} {r : ℕ} → stride ≡ pos (2 * h .w) → eob ≡ pos (h .eob) → r ≡ a .number
-    → Meets (plain eob) (Answers.block (h .w) (h .h) (h .txtp) (h .depth) cs (lent ps (by h stride))) a ps′ cs′ → Acted h cs ps cs′ ps′ r
+    → Meets (outcome (plain eob) (Answers.block (h .w) (h .h) (h .txtp) (h .depth) cs (lent ps (by h stride)))) a ps′ cs′ → Acted h cs ps cs′ ps′ r
 acted-by {h} {cs} {cs′} {ps} {ps′} {stride} {eob} e f is m =
     let same : outcome (plain eob) (Answers.block (h .w) (h .h) (h .txtp) (h .depth) cs (lent ps (by h stride))) ≡ call (record { head = h; coefficients = cs; pixels = ps }) =
     (λ i. outcome (plain (f i)) (Answers.block (h .w) (h .h) (h .txtp) (h .depth) cs (lent ps (by h (e i))))) in

@@ -35,9 +35,10 @@ use Rattle.residual.specs.Blocks.{way-by, residual, shortcut}
 use Rattle.residual.specs.Inner.{Sized}
 use Rattle.residual.proofs.Ends.{row-reach, size}
 use Rattle.itx.specs.declared.Refusal.{Refusal}
-use Rattle.itx.specs.Calls.{Block, Call, Outcome, Leaves, verdict, outcome-of, short, live-rows, by-shortcut, by-passes}
+use Rattle.itx.specs.Calls.{Block, Call, plain, live, Outcome, Meets, verdict, outcome-of, short, live-rows, by-shortcut, by-passes}
 use Rattle.itx.specs.Demands.{Accepted}
-use Rattle.itx.specs.Answers.{number, place, added, Ready, Passed, Shortened}
+use Rattle.itx.specs.Answers.{number, place, added, left, Ready, Suits, Passed, Shortened}
+use Rattle.itx.proofs.Sameness.{rows-all, sides, live-inside}
 use Rattle.itx.proofs.Verdicts.{accepting}
 
 -- ---- a plan's kinds fit its sides
@@ -110,6 +111,11 @@ sized w h type p e =
       wht-both = f .both;
     }
 
+-- no more rows than there are
+pub suits-inside : (call : Call) (b : Block) (p : Plan) (d : Depth) → Accepted call b p d → {r : ℕ} → Suits call p (b .coefs) r → r ≤ p .h
+suits-inside (plain eob) b p d a u = u .0
+suits-inside (live n) b p d a u = subst⁻¹ (λ (r : ℕ). r ≤ p .h) u (live-inside (live n) b p d a)
+
 -- ---- a block as a call is given it
 
 module _ (e : Engine) (call : Call) (b : Block) where
@@ -119,11 +125,7 @@ module _ (e : Engine) (call : Call) (b : Block) where
   abbrev c : List ℤ
   c = b .coefs
 
-  -- what the call leaves by the engine
-  abbrev pub left : Outcome
-  left = outcome-of (way-by e) call b (verdict call b)
-
-  pub refusal-left : (r : Refusal) → verdict call b ≡ refuse (number r) (place r) → Leaves left (Rattle.itx_1d.specs.Calls.refusal (number r) (place r)) ps c
+  pub refusal-left : (r : Refusal) → verdict call b ≡ refuse (number r) (place r) → Meets (left e call b) (Rattle.itx_1d.specs.Calls.refusal (number r) (place r)) ps c
   refusal-left r f =
       let o = ap (outcome-of (way-by e) call b) (sym f) in
       record { answer-is = ap (λ (o : Outcome). o .answer) o; pixels-are = ap (λ (o : Outcome). o .pixels) o; coefs-are = ap (λ (o : Outcome). o .coefs) o }
@@ -144,20 +146,24 @@ module _ (e : Engine) (call : Call) (b : Block) where
     abbrev long : ℕ → Outcome
     long r = by-passes b p d (way-by e p d) r
 
-    taken : (t : Bool) → short call p ≡ t → left ≡ cond t (by-shortcut b p d) (long (live-rows call p))
+    taken : (t : Bool) → short call p ≡ t → left e call b ≡ cond t (by-shortcut b p d) (long (live-rows call p))
     taken t f = ap (outcome-of (way-by e) call b) (accepting call b p d a) ∙ ap (λ (t : Bool). cond t (by-shortcut b p d) (long (live-rows call p))) f
 
-    -- the long way with r rows, where that leaves the same as with the call's
-    pub passes-left : (r : ℕ) {mark : Bool} {ps′ : List ℕ} {c′ : List ℤ} → short call p ≡ false → long r ≡ long (live-rows call p) → Passed e p d s r ps c mark ps′ c′ → Leaves left (acceptance mark) ps′ c′
-    passes-left r f q m =
-        let o = q ∙ sym (taken false f) in
+    -- rows that the call may leave out change nothing
+    suited : (k : Call) (r : ℕ) → Accepted k b p d → Suits k p c r → long r ≡ long (live-rows k p)
+    suited (plain eob) r a u = rows-all b p d e r (sides b p d (plain eob) a .0) (u .0) (u .1)
+    suited (live n) r a u = ap long u
+
+    pub passes-left : (r : ℕ) {mark : Bool} {ps′ : List ℕ} {c′ : List ℤ} → short call p ≡ false → Suits call p c r → Passed e p d s r ps c mark ps′ c′ → Meets (left e call b) (acceptance mark) ps′ c′
+    passes-left r f u m =
+        let o = suited call r a u ∙ sym (taken false f) in
         record {
           answer-is = ap acceptance (m .mark-is) ∙ ap (λ (o : Outcome). o .answer) o;
           pixels-are = m .pixels-are ∙ ap (λ (s : Spot). added d s ps (residual (way-by e p d) c r)) turned ∙ ap (λ (o : Outcome). o .pixels) o;
           coefs-are = m .coefs-are ∙ ap (λ (o : Outcome). o .coefs) o;
         }
 
-    pub shortcut-left : {ps′ : List ℕ} {c′ : List ℤ} → short call p ≡ true → Shortened p d s ps c ps′ c′ → Leaves left (acceptance false) ps′ c′
+    pub shortcut-left : {ps′ : List ℕ} {c′ : List ℤ} → short call p ≡ true → Shortened p d s ps c ps′ c′ → Meets (left e call b) (acceptance false) ps′ c′
     shortcut-left f m =
         let o = sym (taken true f) in
         record {

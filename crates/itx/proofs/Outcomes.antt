@@ -107,5 +107,5 @@ module _ (call : Call) (b : Block) where
 
 -- ---- one outcome
 
-pub one-outcome : {call : Call} {b : Block} {a a′ : Answer} {ps ps′ : List ℕ} {cs cs′ : List ℤ} → Meets call b a ps cs → Meets call b a′ ps′ cs′ → (a ≡ a′) × (ps ≡ ps′) × (cs ≡ cs′)
+pub one-outcome : {o : Outcome} {a a′ : Answer} {ps ps′ : List ℕ} {cs cs′ : List ℤ} → Meets o a ps cs → Meets o a′ ps′ cs′ → (a ≡ a′) × (ps ≡ ps′) × (cs ≡ cs′)
 one-outcome m n = (m .answer-is ∙ sym (n .answer-is), m .pixels-are ∙ sym (n .pixels-are), m .coefs-are ∙ sym (n .coefs-are))

@@ -57,15 +57,18 @@ module _ (w h : ℕ) (h-pos : 0 < h) (c : List ℤ) (r : ℕ) where
       let s = first-none (w * h) (in-dead-row r h c) e (y + x * h) j in
       is-zero (at c (y + x * h)) (sym (ap (λ (t : Bool). t && nonzero (at c (y + x * h))) (ap (leb r) m ∙ le-leb r y a)) ∙ s)
 
-pub second-true : (s t : Bool) → not (s && t) ≡ false → t ≡ true
+second-true : (s t : Bool) → not (s && t) ≡ false → t ≡ true
 second-true true true e = refl
 second-true true false e = sym e
 second-true false true e = refl
 second-true false false e = sym e
 
+pub rows-inside : (call : Call) (p : Plan) → bad-rows call (p .h) ≡ false → live-rows call p ≤ p .h
+rows-inside (plain e) p a = omega arith
+rows-inside (live r) p a = leb-true r (p .h) (second-true (leb 1 r) (leb r (p .h)) a)
+
 pub live-inside : (call : Call) (b : Block) (p : Plan) (d : Depth) → Accepted call b p d → live-rows call p ≤ p .h
-live-inside (plain e) b p d a = omega arith
-live-inside (live r) b p d a = leb-true r (p .h) (second-true (leb 1 r) (leb r (p .h)) (a .rows))
+live-inside call b p d a = rows-inside call p (a .rows)
 
 -- ---- the theorems, for a block that the plain call accepts
 

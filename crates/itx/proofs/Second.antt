@@ -1,5 +1,5 @@
 -- The second engine (E8): what its calls leave, and that it is what the first engine's leave where the mark is no.
-use mathlib.Core.Path.{_≡_, refl, sym, ap, _∙_, subst⁻¹}
+use mathlib.Core.Path.{_≡_, refl, sym, ap, _∙_, subst, subst⁻¹}
 use mathlib.Core.Bool.{Bool, true, false, cond, not, _||_}
 use mathlib.Core.List.{List}
 use Prim.Native.Nat.{ℕ}
@@ -17,10 +17,10 @@ use Rattle.levels.specs.declared.Plan.{Plan}
 use Rattle.levels.specs.Plans.{plan}
 use Rattle.residual.specs.declared.Engine.the-variants.{First, Spec}
 use Rattle.residual.specs.Blocks.{way-by, marked, row, column}
-use Rattle.itx.specs.Answers.{Allowed, adst-planned}
+use Rattle.itx.specs.Answers.{left, Allowed, adst-planned}
 use Rattle.itx.specs.Av1.{av1-way}
-use Rattle.itx.specs.Calls.{Block, Call, Outcome, Leaves, Meets, checked, verdict, spec-verdict, with-adst, short, live-rows, by-shortcut, outcome-of, outcome}
-use Rattle.itx.specs.Spec.{SpecMeets, spec-outcome}
+use Rattle.itx.specs.Calls.{Block, Call, Outcome, Meets, checked, verdict, spec-verdict, with-adst, short, live-rows, by-shortcut, outcome-of, outcome}
+use Rattle.itx.specs.Spec.{spec-outcome}
 use Rattle.itx.proofs.Av1Same.{enter-av1, between-av1, unmarked-av1}
 
 -- ---- what an engine is asked for
@@ -67,19 +67,19 @@ module _ (call : Call) (b : Block) where
 
   -- what the inner calls leave is what the public ones promise
   module _ {answer : Answer} {ps : List ℕ} {cs : List ℤ} where
-    pub first-meets : Leaves (outcome-of (way-by First) call b (verdict call b)) answer ps cs → Meets call b answer ps cs
+    pub first-meets : {asked : Call} → asked ≡ call → Meets (left First asked b) answer ps cs → Meets (outcome call b) answer ps cs
     unfolding outcome
-    first-meets m = record { answer-is = m .answer-is; pixels-are = m .pixels-are; coefs-are = m .coefs-are }
+    first-meets e = subst (λ (k : Call). Meets (left First k b) answer ps cs) e
 
-    as-spec : {o : Outcome} → o ≡ spec-outcome call b → Leaves o answer ps cs → SpecMeets call b answer ps cs
-    as-spec e m =
-        record { answer-is = m .answer-is ∙ ap (λ (o : Outcome). o .answer) e; pixels-are = m .pixels-are ∙ ap (λ (o : Outcome). o .pixels) e; coefs-are = m .coefs-are ∙ ap (λ (o : Outcome). o .coefs) e }
+    as-spec : {o : Outcome} → o ≡ spec-outcome call b → Meets o answer ps cs → Meets (spec-outcome call b) answer ps cs
+    as-spec e = subst (λ (o : Outcome). Meets o answer ps cs) e
 
-    pub spec-meets : adst-planned planned ≡ false → Leaves (outcome-of (way-by Spec) call b (verdict call b)) answer ps cs → SpecMeets call b answer ps cs
+    pub spec-meets : {asked : Call} → asked ≡ call → adst-planned planned ≡ false → Meets (left Spec asked b) answer ps cs → Meets (spec-outcome call b) answer ps cs
     unfolding spec-outcome
-    spec-meets h m = as-spec (λ i. outcome-of (λ p d. way-is p d i) call b (checked call b (sym (judged planned h) i))) m
+    spec-meets e h m =
+        as-spec (ap (λ (k : Call). left Spec k b) e ∙ (λ i. outcome-of (λ p d. way-is p d i) call b (checked call b (sym (judged planned h) i)))) m
 
-  pub spec-refused : adst-planned planned ≡ true → SpecMeets call b (refusal 2 0) (b .plane .pixels) (b .coefs)
+  pub spec-refused : adst-planned planned ≡ true → Meets (spec-outcome call b) (refusal 2 0) (b .plane .pixels) (b .coefs)
   unfolding spec-outcome
   spec-refused h = as-spec (ap by-spec (sym (barred planned h))) (record { answer-is = refl; pixels-are = refl; coefs-are = refl })
 

@@ -11,8 +11,7 @@ use Rattle.itx.specs.declared.Answer.the-variants.{Done, Refused}
 use Rattle.itx.specs.declared.Refusal.{Refusal}
 use Rattle.itx.specs.declared.Refusal.the-variants.{NoSize, NoType, NoDepth, NegativeEob, NoSuchRows, FewCoefficients, NotVisible, BadStride, RowOutside, OutOfRange, Stray, AboveMaximum}
 use Rattle.itx.specs.Answers.{number, place, answer-of}
-use Rattle.itx.specs.Calls.{Block, Call, Meets}
-use Rattle.itx.specs.Spec.{SpecMeets}
+use Rattle.itx.specs.Calls.{Outcome, Meets}
 use Rattle.itx.proofs.Outcomes.{one-outcome}
 
 -- the refusal, and the answer, that the table's numbers stand for
@@ -68,9 +67,5 @@ unfolding back
 back-is (Done b) = refl
 back-is (Refused r) = (λ i. cond (not-zero r i) (Done false) (Refused (refusal-is r i)))
 
-pub one-answer : {call : Call} {b : Block} {r r′ : Answer} {ps ps′ : List ℕ} {c c′ : List ℤ} → Meets call b (answer-of r) ps c → Meets call b (answer-of r′) ps′ c′ → (r ≡ r′) × (ps ≡ ps′) × (c ≡ c′)
+pub one-answer : {o : Outcome} {r r′ : Answer} {ps ps′ : List ℕ} {c c′ : List ℤ} → Meets o (answer-of r) ps c → Meets o (answer-of r′) ps′ c′ → (r ≡ r′) × (ps ≡ ps′) × (c ≡ c′)
 one-answer {r = r} {r′ = r′} m m′ = let o = one-outcome m m′ in (sym (back-is r) ∙ ap back (o .0) ∙ back-is r′, o .1, o .2)
-
--- nor that of the second engine
-pub one-spec-answer : {call : Call} {b : Block} {r r′ : Answer} {ps ps′ : List ℕ} {c c′ : List ℤ} → SpecMeets call b (answer-of r) ps c → SpecMeets call b (answer-of r′) ps′ c′ → (r ≡ r′) × (ps ≡ ps′) × (c ≡ c′)
-one-spec-answer {r = r} {r′ = r′} m m′ = (sym (back-is r) ∙ ap back (m .answer-is ∙ sym (m′ .answer-is)) ∙ back-is r′, m .pixels-are ∙ sym (m′ .pixels-are), m .coefs-are ∙ sym (m′ .coefs-are))

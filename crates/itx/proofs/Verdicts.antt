@@ -1,13 +1,29 @@
 -- A call is accepted just when no number of the table holds.
 use mathlib.Core.Path.{_≡_, ap, _∙_}
-use Rattle.whole.specs.Checks.{accept, then, when, judged}
+use mathlib.Core.Bool.{Bool, true, false, cond}
+use Prim.Native.Nat.{ℕ}
+use Rattle.whole.specs.Checks.{Check, accept, refuse, then, when, judged}
 use Rattle.whole.proofs.Checks.{open-then, same-accept, when-none, cleared, taken}
 use Rattle.bitdepth.specs.declared.Depth.{Depth}
 use Rattle.bitdepth.specs.Depths.{depth}
 use Rattle.levels.specs.declared.Plan.{Plan}
-use Rattle.levels.specs.Plans.{plan}
+use Rattle.levels.specs.Plans.{among, shift-0, shift-1, shift-2, with-kinds, with-shift, plan}
+use Rattle.levels.proofs.Types.{by-types}
 use Rattle.itx.specs.Calls.{Block, Call, with-depth, table, verdict}
 use Rattle.itx.specs.Demands.{Accepted}
+
+-- a plan is refused by 1 or by 2
+pub by-plan : (F : Check Plan → Type 0) (w h type : ℕ) → F (refuse 1 0) → F (refuse 2 0) → ((p : Plan) → F (accept p)) → F (plan w h type)
+by-plan F w h type no-size no-type planned = shifted (among w h shift-0) (among w h shift-1) (among w h shift-2)
+  where
+    kinds : (s : ℕ) → F (with-shift w h type s)
+    kinds s = by-types (λ t. true) (λ k. F (then k (with-kinds w h s))) w h type no-type (λ t a b. planned _) tt
+
+    shifted : (a b c : Bool) → F (then (cond a (accept 0) (cond b (accept 1) (cond c (accept 2) (refuse 1 0)))) (with-shift w h type))
+    shifted true b c = kinds 0
+    shifted false true c = kinds 1
+    shifted false false true = kinds 2
+    shifted false false false = no-size
 
 module _ (call : Call) (b : Block) where
   pub accepting : (p : Plan) (d : Depth) → Accepted call b p d → verdict call b ≡ accept (p, d)

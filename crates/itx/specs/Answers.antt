@@ -14,11 +14,14 @@ use Rattle.strided.specs.Planes.{Plane, begins, spot-outside}
 use Rattle.strided.specs.declared.Spot.{Spot}
 use Rattle.pixels.specs.Adds.{add-rows}
 use Rattle.pixels.specs.Inner.{Looking}
+use Rattle.coefs.specs.Coefs.{Covers}
 use Rattle.residual.specs.declared.Engine.{Engine}
 use Rattle.residual.specs.Blocks.{way-by, residual, marked, shortcut}
 use Rattle.residual.specs.Inner.{Sized, Coefs, Served}
 use Rattle.itx_1d.specs.Calls as Passes
-use Rattle.itx.specs.Calls.{Block, with-adst}
+use Rattle.itx.specs.Calls.{Block, Call, Outcome, plain, live, with-adst, live-rows, verdict, outcome-of}
+use Rattle.itx.specs.declared.Announced.{Announced}
+use Rattle.itx.specs.declared.Announced.the-variants.{Eob, LiveRows}
 use Rattle.itx.specs.declared.Answer.{Answer}
 use Rattle.itx.specs.declared.Answer.the-variants.{Done, Refused}
 use Rattle.itx.specs.declared.Refusal.{Refusal}
@@ -60,6 +63,11 @@ abbrev pub answer-of : Answer → Passes.Answer
 answer-of (Done mark) = Passes.acceptance mark
 answer-of (Refused r) = Passes.refusal (number r) (place r)
 
+-- which call announces so much
+abbrev pub call-of : Announced → Call
+call-of (Eob eob) = plain eob
+call-of (LiveRows r) = live r
+
 -- ---- the checks on the way
 
 abbrev pub verdict-of : Verdict → Check (Plan × Depth)
@@ -73,32 +81,28 @@ Asked (Go p d) = (p .w ≤ 32) × (p .h ≤ 32)
 Asked (At p d s) = ⊥
 Asked (Stop r) = Unit {0}
 
--- .. and afterwards: the spot is the one asked for
+-- .. and afterwards, of a plan, a depth and a place
+abbrev pub Placed : (Plan → Depth → Spot → Type 0) → Verdict → Type 0
+Placed F (Go p d) = ⊥
+Placed F (At p d s) = F p d s
+Placed F (Stop r) = Unit {0}
+
+-- the place is the one asked for
 abbrev pub Lies : Spot → Verdict → Type 0
-Lies t (Go p d) = ⊥
-Lies t (At p d s) = s ≡ t
-Lies t (Stop r) = Unit {0}
+Lies t = Placed (λ p d s. s ≡ t)
 
 abbrev pub Enough : ℕ → Verdict → Type 0
-Enough count (Go p d) = ⊥
-Enough count (At p d s) = p .w * p .h ≤ count
-Enough count (Stop r) = Unit {0}
+Enough count = Placed (λ p d s. p .w * p .h ≤ count)
 
-abbrev pub RowsIn : ℕ → Verdict → Type 0
-RowsIn r (Go p d) = ⊥
-RowsIn r (At p d s) = r ≤ p .h
-RowsIn r (Stop x) = Unit {0}
+abbrev pub RowsIn : Call → Verdict → Type 0
+RowsIn call = Placed (λ p d s. live-rows call p ≤ p .h)
 
 abbrev pub Looks : ℕ → Verdict → Type 0
-Looks size (Go p d) = ⊥
-Looks size (At p d s) = Looking s (p .w) size
-Looks size (Stop r) = Unit {0}
+Looks size = Placed (λ p d s. Looking s (p .w) size)
 
 -- a later check hands on what it was given, or stops
 abbrev pub Handed : Verdict → Verdict → Type 0
-Handed before (Go p d) = ⊥
-Handed before (At p d s) = before ≡ At p d s
-Handed before (Stop r) = Unit {0}
+Handed before = Placed (λ p d s. before ≡ At p d s)
 
 -- ---- the block that a call is given
 
@@ -112,6 +116,11 @@ pub record Ready (p : Plan) (s : Spot) (ps : List ℕ) (c : List ℤ) : Type 0 w
   pub columns-in : s .columns ≤ p .w
   pub rows-in : s .rows ≤ p .h
   pub inside : spot-outside (length ps) s ≡ false
+
+-- how many rows the long way may pass over: a live-row call's, and of a plain call as many as cover what is nonzero (demand 3)
+abbrev pub Suits : Call → Plan → List ℤ → ℕ → Type 0
+Suits (plain eob) p c r = (r ≤ p .h) × Covers (p .w) (p .h) c r
+Suits (live n) p c r = r ≡ n
 
 -- what they leave: pixels ps and coefficients c become ps′ and c′
 abbrev pub added : Depth → Spot → List ℕ → (ℕ → ℕ → ℤ) → List ℕ
@@ -127,6 +136,10 @@ pub record Shortened (p : Plan) (d : Depth) (s : Spot) (ps : List ℕ) (c : List
   pub coefs-are : c′ ≡ set c 0 (pos 0)
 
 -- ---- the two engines
+
+-- what a call leaves by an engine
+abbrev pub left : Engine → Call → Block → Outcome
+left e call b = outcome-of (way-by e) call b (verdict call b)
 
 -- a plan was made, and it has an ADST
 abbrev pub adst-planned : Check Plan → Bool

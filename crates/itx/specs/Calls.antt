@@ -76,6 +76,10 @@ plane-lines k size v =
     ∷ (8, λ a. when (spot-outside size (spot k v)))
     ∷ []
 
+-- numbers 4 to 8, and 20 "right after 6" (E5): those that ask for no number of a slice
+abbrev pub lengths-lines : Call → ℕ → Width → ℕ → View → List (Line (Plan × Depth))
+lengths-lines call count k size v = eob-line call ∷ rows-line call ∷ count-line count ∷ plane-lines k size v
+
 abbrev pub range-line : List ℤ → Line (Plan × Depth)
 range-line c = (9, λ a. out-of-range a c)
 
@@ -94,11 +98,15 @@ abbrev pub with-adst : Plan → Bool
 with-adst p = is-adst (p .rows) || is-adst (p .columns)
 
 module _ (call : Call) (b : Block) where
-  -- numbers 4 to 10, with 20 "right after 6" (E5) and 21 "after 10" (E6)
+  -- numbers 4 to 10, with 20, and 21 "after 10" (E6)
   abbrev pub table : List (Line (Plan × Depth))
   table =
       let c = b .coefs in
-      eob-line call ∷ rows-line call ∷ count-line (length c) ∷ plane-lines (b .plane .width) (length (b .plane .pixels)) (b .plane .view) ++ range-line c ∷ stray-line call c ∷ pixel-line (b .plane .pixels) (lies (b .plane)) ∷ []
+      lengths-lines call (length c) (b .plane .width) (length (b .plane .pixels)) (b .plane .view)
+      ++ range-line c
+      ∷ stray-line call c
+      ∷ pixel-line (b .plane .pixels) (lies (b .plane))
+      ∷ []
 
   -- "Checked in this order; the first that applies is answered, and none otherwise."
   abbrev pub checked : Check Plan → Check (Plan × Depth)
@@ -155,14 +163,8 @@ outcome-of engine call b (accept (p, d)) = cond (short call p) (by-shortcut b p 
 unfoldable pub outcome : Call → Block → Outcome
 outcome call b = outcome-of way call b (verdict call b)
 
--- what a public call answers and leaves
-pub record Meets (call : Call) (b : Block) (answer : Answer) (pixels : List ℕ) (coefs : List ℤ) : Type 0 where
-  pub answer-is : answer ≡ outcome call b .answer
-  pub pixels-are : pixels ≡ outcome call b .pixels
-  pub coefs-are : coefs ≡ outcome call b .coefs
-
--- what is answered and left is o
-pub record Leaves (o : Outcome) (answer : Answer) (pixels : List ℕ) (coefs : List ℤ) : Type 0 where
+-- what a public call answers and leaves is o
+pub record Meets (o : Outcome) (answer : Answer) (pixels : List ℕ) (coefs : List ℤ) : Type 0 where
   pub answer-is : answer ≡ o .answer
   pub pixels-are : pixels ≡ o .pixels
   pub coefs-are : coefs ≡ o .coefs

@@ -15,7 +15,7 @@ ghost use Rattle.residual.specs.Blocks.{way-by};
 ghost use Rattle.itx.specs.Spec as Spec;
 ghost use Rattle.itx.specs.Calls as Calls;
 ghost use Rattle.itx.specs.Answers as Answers;
-ghost use Rattle.itx.specs.Answers.{answer-of, verdict-of, Asked, Lies, Looks, Enough, RowsIn, Handed, block, Ready, Passed, Shortened, Allowed, adst-planned};
+ghost use Rattle.itx.specs.Answers.{answer-of, call-of, verdict-of, Asked, Lies, Looks, Enough, RowsIn, Handed, block, Ready, Suits, Passed, Shortened, left, Allowed, adst-planned};
 use bitdepth::Depth;
 use bitdepth::DepthCheck;
 use bitdepth::Range;
@@ -54,6 +54,12 @@ pub enum Refusal {
     OutOfRange(usize),
     Stray(usize),
     AboveMaximum(usize),
+}
+
+// What a call tells of its coefficients: the plain call an eob, the live-row call how many rows are live.
+enum Announced {
+    Eob(i32),
+    LiveRows(usize),
 }
 
 // What a call answers: it is done, with the mark, or nothing was changed.
@@ -191,6 +197,17 @@ fn check_rows(before: Verdict, r: usize) -> Verdict
     }
 }
 
+// Numbers 4 and 5: each call has one.
+fn check_announced(before: Verdict, announced: Announced) -> Verdict
+    requires { ⌜ Asked before ⌝ }
+    ensures { λ r. ⌜ (verdict-of r ≡ then (verdict-of before) (judged (Calls.eob-line (call-of announced) ∷ Calls.rows-line (call-of announced) ∷ []))) × Asked r ⌝ }
+{
+    match announced {
+        Announced::Eob(eob) => check_eob(before, eob),
+        Announced::LiveRows(r) => check_rows(before, r),
+    }
+}
+
 // Number 6.
 fn check_count(before: Verdict, count: usize) -> Verdict
     requires { ⌜ Asked before ⌝ }
@@ -244,11 +261,34 @@ fn check_range(before: Verdict, coeff: &[i32]) -> Verdict
     Verdict::Stop(Refusal::OutOfRange(i))
 }
 
-// Number 10.
-fn check_stray(before: Verdict, coeff: &[i32], r: usize) -> Verdict
-    requires { ⌜ Enough (length (now coeff)) before × RowsIn r before ⌝ }
-    ensures { λ v. ⌜ (verdict-of v ≡ then (verdict-of before) (judged (Calls.stray-line (Calls.live r) (now (coeff .entry)) ∷ []))) × Handed before v ⌝ }
+// Numbers 1 to 8 and 20, for which the lengths of the slices are enough.
+fn check_lengths(
+    announced: Announced,
+    width: Width,
+    size: usize,
+    view: View,
+    count: usize,
+    w: usize,
+    h: usize,
+    txtp: usize,
+    depth: usize,
+) -> Verdict
+    ensures { λ r. ⌜ (verdict-of r ≡ then (then (Plans.plan w h txtp) (Calls.with-depth depth)) (judged (Calls.lengths-lines (call-of announced) count width size view))) × Lies (spot width view) r × Looks size r × Enough count r × RowsIn (call-of announced) r ⌝ }
 {
+    let kind = check_kind(w, h, txtp, depth);
+    let known = check_announced(kind, announced);
+    let counted = check_count(known, count);
+    check_plane(counted, width, size, view)
+}
+
+// Number 10, which the live-row call has.
+fn check_stray(before: Verdict, coeff: &[i32], announced: Announced) -> Verdict
+    requires { ⌜ Enough (length (now coeff)) before × RowsIn (call-of announced) before ⌝ }
+    ensures { λ v. ⌜ (verdict-of v ≡ then (verdict-of before) (judged (Calls.stray-line (call-of announced) (now (coeff .entry)) ∷ []))) × Handed before v ⌝ }
+{
+    let Announced::LiveRows(r) = announced else {
+        return before;
+    };
     let Verdict::At(plan, _, _) = before else {
         return before;
     };
@@ -322,11 +362,14 @@ fn by_passes(
 }
 
 // The shortcut is due: DCT_DCT with eob 0.
-fn is_short(plan: Plan, eob: i32) -> bool
-    ensures { λ r. ⌜ r ≡ Calls.short (Calls.plain eob) plan ⌝ }
+fn is_short(plan: Plan, announced: Announced) -> bool
+    ensures { λ r. ⌜ r ≡ Calls.short (call-of announced) plan ⌝ }
 {
     let rows = plan.rows;
     let columns = plan.columns;
+    let Announced::Eob(eob) = announced else {
+        return false;
+    };
     if eob != 0 {
         return false;
     }
@@ -339,46 +382,35 @@ fn is_short(plan: Plan, eob: i32) -> bool
     true
 }
 
-// Numbers 1 to 9, 20 and 21.
-fn check_plain(
-    dst: &[u16],
-    view: View,
-    coeff: &[i32],
-    eob: i32,
-    w: usize,
-    h: usize,
-    txtp: usize,
-    depth: usize,
-) -> Verdict
-    ensures { λ r. ⌜ (verdict-of r ≡ Calls.verdict (Calls.plain eob) (block w h txtp depth (now (coeff .entry)) (lent (now (dst .entry)) view))) × Lies (spot Wide view) r ⌝ }
+// How many rows the long way passes over. The plain call leaves out rows that are zero: that changes nothing, by demand 3.
+fn rows_to_pass(announced: Announced, coeff: &[i32], plan: Plan) -> usize
+    requires { ⌜ (plan .w * plan .h ≤ length (now coeff)) × (1 ≤ plan .h) ⌝ }
+    ensures { λ r. ⌜ Suits (call-of announced) plan (now (coeff .entry)) r ⌝ }
 {
-    let kind = check_kind(w, h, txtp, depth);
-    let known = check_eob(kind, eob);
-    let counted = check_count(known, coeff.len());
-    let placed = check_plane(counted, Width::Wide, dst.len(), view);
-    let ranged = check_range(placed, coeff);
-    check_pixels(ranged, dst)
+    match announced {
+        Announced::Eob(_) => live_rows(coeff, plan.w, plan.h),
+        Announced::LiveRows(r) => r,
+    }
 }
 
-// Numbers 1 to 3, 5 to 10, 20 and 21.
-fn check_live(
+// All numbers of a block call.
+fn check(
+    announced: Announced,
     dst: &[u16],
     view: View,
     coeff: &[i32],
-    r: usize,
     w: usize,
     h: usize,
     txtp: usize,
     depth: usize,
 ) -> Verdict
-    ensures { λ v. ⌜ (verdict-of v ≡ Calls.verdict (Calls.live r) (block w h txtp depth (now (coeff .entry)) (lent (now (dst .entry)) view))) × Lies (spot Wide view) v ⌝ }
+    ensures { λ r. ⌜ (verdict-of r ≡ Calls.verdict (call-of announced) (block w h txtp depth (now (coeff .entry)) (lent (now (dst .entry)) view))) × Lies (spot Wide view) r ⌝ }
 {
-    let kind = check_kind(w, h, txtp, depth);
-    let known = check_rows(kind, r);
-    let counted = check_count(known, coeff.len());
-    let placed = check_plane(counted, Width::Wide, dst.len(), view);
+    let size = dst.len();
+    let count = coeff.len();
+    let placed = check_lengths(announced, Width::Wide, size, view, count, w, h, txtp, depth);
     let ranged = check_range(placed, coeff);
-    let covered = check_stray(ranged, coeff, r);
+    let covered = check_stray(ranged, coeff, announced);
     check_pixels(covered, dst)
 }
 
@@ -394,60 +426,32 @@ fn by_shortcut(dst: &mut [u16], spot: Spot, coeff: &mut [i32], plan: Plan, depth
     coeff[0] = 0;
 }
 
-// The plain call, by an engine.
-fn plain(
+// Both calls, by an engine.
+fn transform(
     engine: Engine,
+    announced: Announced,
     dst: &mut [u16],
     view: View,
     coeff: &mut [i32],
-    eob: i32,
     w: usize,
     h: usize,
     txtp: usize,
     depth: usize,
 ) -> Answer
     requires { ⌜ Allowed engine (Plans.plan w h txtp) ⌝ }
-    ensures { λ r. ⌜ Calls.Leaves (Calls.outcome-of (way-by engine) (Calls.plain eob) (block w h txtp depth (now (coeff .entry)) (lent (now (dst .entry)) view)) (Calls.verdict (Calls.plain eob) (block w h txtp depth (now (coeff .entry)) (lent (now (dst .entry)) view)))) (answer-of r) (now (dst .exit)) (now (coeff .exit)) ⌝ }
+    ensures { λ r. ⌜ Calls.Meets (left engine (call-of announced) (block w h txtp depth (now (coeff .entry)) (lent (now (dst .entry)) view))) (answer-of r) (now (dst .exit)) (now (coeff .exit)) ⌝ }
 {
-    let checked = check_plain(&*dst, view, &*coeff, eob, w, h, txtp, depth);
+    let checked = check(announced, &*dst, view, &*coeff, w, h, txtp, depth);
     match checked {
         Verdict::Stop(refusal) => Answer::Refused(refusal),
         // Never: the check of the plane has found a place or stopped.
         Verdict::Go(_, _) => Answer::Refused(Refusal::RowOutside),
         Verdict::At(plan, d, spot) => {
-            if is_short(plan, eob) {
+            if is_short(plan, announced) {
                 by_shortcut(dst, spot, coeff, plan, d);
                 return Answer::Done(false);
             }
-            // Rows that are zero are passed over: that changes nothing, by demand 3.
-            let r = live_rows(&*coeff, plan.w, plan.h);
-            let mark = by_passes(engine, dst, spot, coeff, plan, d, r);
-            Answer::Done(mark)
-        }
-    }
-}
-
-// The live-row call, by an engine.
-fn live(
-    engine: Engine,
-    dst: &mut [u16],
-    view: View,
-    coeff: &mut [i32],
-    r: usize,
-    w: usize,
-    h: usize,
-    txtp: usize,
-    depth: usize,
-) -> Answer
-    requires { ⌜ Allowed engine (Plans.plan w h txtp) ⌝ }
-    ensures { λ a. ⌜ Calls.Leaves (Calls.outcome-of (way-by engine) (Calls.live r) (block w h txtp depth (now (coeff .entry)) (lent (now (dst .entry)) view)) (Calls.verdict (Calls.live r) (block w h txtp depth (now (coeff .entry)) (lent (now (dst .entry)) view)))) (answer-of a) (now (dst .exit)) (now (coeff .exit)) ⌝ }
-{
-    let checked = check_live(&*dst, view, &*coeff, r, w, h, txtp, depth);
-    match checked {
-        Verdict::Stop(refusal) => Answer::Refused(refusal),
-        // Never: the check of the plane has found a place or stopped.
-        Verdict::Go(_, _) => Answer::Refused(Refusal::RowOutside),
-        Verdict::At(plan, d, spot) => {
+            let r = rows_to_pass(announced, &*coeff, plan);
             let mark = by_passes(engine, dst, spot, coeff, plan, d, r);
             Answer::Done(mark)
         }
@@ -465,9 +469,20 @@ pub fn inv_txfm_add(
     txtp: usize,
     depth: usize,
 ) -> Answer
-    ensures { λ r. ⌜ Calls.Meets (Calls.plain eob) (block w h txtp depth (now (coeff .entry)) (lent (now (dst .entry)) view)) (answer-of r) (now (dst .exit)) (now (coeff .exit)) ⌝ }
+    ensures { λ r. ⌜ Calls.Meets (Calls.outcome (Calls.plain eob) (block w h txtp depth (now (coeff .entry)) (lent (now (dst .entry)) view))) (answer-of r) (now (dst .exit)) (now (coeff .exit)) ⌝ }
 {
-    plain(Engine::First, dst, view, coeff, eob, w, h, txtp, depth)
+    let announced = Announced::Eob(eob);
+    transform(
+        Engine::First,
+        announced,
+        dst,
+        view,
+        coeff,
+        w,
+        h,
+        txtp,
+        depth,
+    )
 }
 
 // The live-row call.
@@ -481,9 +496,20 @@ pub fn inv_txfm_add_live(
     txtp: usize,
     depth: usize,
 ) -> Answer
-    ensures { λ a. ⌜ Calls.Meets (Calls.live r) (block w h txtp depth (now (coeff .entry)) (lent (now (dst .entry)) view)) (answer-of a) (now (dst .exit)) (now (coeff .exit)) ⌝ }
+    ensures { λ a. ⌜ Calls.Meets (Calls.outcome (Calls.live r) (block w h txtp depth (now (coeff .entry)) (lent (now (dst .entry)) view))) (answer-of a) (now (dst .exit)) (now (coeff .exit)) ⌝ }
 {
-    live(Engine::First, dst, view, coeff, r, w, h, txtp, depth)
+    let announced = Announced::LiveRows(r);
+    transform(
+        Engine::First,
+        announced,
+        dst,
+        view,
+        coeff,
+        w,
+        h,
+        txtp,
+        depth,
+    )
 }
 
 fn is_adst(kind: Kind) -> bool
@@ -525,12 +551,13 @@ pub fn spec_inv_txfm_add(
     txtp: usize,
     depth: usize,
 ) -> Answer
-    ensures { λ r. ⌜ Spec.SpecMeets (Calls.plain eob) (block w h txtp depth (now (coeff .entry)) (lent (now (dst .entry)) view)) (answer-of r) (now (dst .exit)) (now (coeff .exit)) ⌝ }
+    ensures { λ r. ⌜ Calls.Meets (Spec.spec-outcome (Calls.plain eob) (block w h txtp depth (now (coeff .entry)) (lent (now (dst .entry)) view))) (answer-of r) (now (dst .exit)) (now (coeff .exit)) ⌝ }
 {
     if has_adst(w, h, txtp) {
         return Answer::Refused(Refusal::NoType);
     }
-    plain(Engine::Spec, dst, view, coeff, eob, w, h, txtp, depth)
+    let announced = Announced::Eob(eob);
+    transform(Engine::Spec, announced, dst, view, coeff, w, h, txtp, depth)
 }
 
 // The live-row call of the second engine.
@@ -544,10 +571,11 @@ pub fn spec_inv_txfm_add_live(
     txtp: usize,
     depth: usize,
 ) -> Answer
-    ensures { λ a. ⌜ Spec.SpecMeets (Calls.live r) (block w h txtp depth (now (coeff .entry)) (lent (now (dst .entry)) view)) (answer-of a) (now (dst .exit)) (now (coeff .exit)) ⌝ }
+    ensures { λ a. ⌜ Calls.Meets (Spec.spec-outcome (Calls.live r) (block w h txtp depth (now (coeff .entry)) (lent (now (dst .entry)) view))) (answer-of a) (now (dst .exit)) (now (coeff .exit)) ⌝ }
 {
     if has_adst(w, h, txtp) {
         return Answer::Refused(Refusal::NoType);
     }
-    live(Engine::Spec, dst, view, coeff, r, w, h, txtp, depth)
+    let announced = Announced::LiveRows(r);
+    transform(Engine::Spec, announced, dst, view, coeff, w, h, txtp, depth)
 }

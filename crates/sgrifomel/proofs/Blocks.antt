@@ -14,16 +14,16 @@ use Rattle.whole.proofs.Checks.{open-then, open-unless}
 use Rattle.bitdepth.specs.declared.Depth.{Depth}
 use Rattle.bitdepth.specs.Depths.{depth, maximum}
 use Rattle.levels.specs.declared.Plan.{Plan}
-use Rattle.levels.proofs.Types.{by-types}
-use Rattle.levels.specs.Plans.{among, shift-0, shift-1, shift-2, shift-of, kinds-of, with-kinds, with-shift, plan}
+use Rattle.levels.specs.Plans.{plan}
 use Rattle.levels.proofs.Sizes.{side-bounds, plan-sided}
 use Rattle.strided.specs.Planes.{bad-view, bad-stride, row-outside, lies}
 use Rattle.strided.proofs.Rows.{rows-in}
 use Rattle.pixels.specs.Above.{first-above}
 use Rattle.itx_1d.specs.Calls.{Answer}
-use Rattle.itx.specs.Calls.{Block, Call, plain, live, bad-eob, bad-rows, out-of-range, stray, table, checked, verdict, spec-verdict, with-adst, short, outcome-of, by-shortcut, by-passes, live-rows, outcome, Meets}
+use Rattle.itx.specs.Calls.{Block, Call, plain, live, bad-eob, bad-rows, out-of-range, stray, table, checked, verdict, spec-verdict, with-adst, short, outcome-of, by-shortcut, by-passes, live-rows, outcome, Outcome, Meets}
 use Rattle.itx.specs.Av1.{av1-way}
-use Rattle.itx.specs.Spec.{SpecMeets, spec-outcome}
+use Rattle.itx.specs.Spec.{spec-outcome}
+use Rattle.itx.proofs.Verdicts.{by-plan}
 use Rattle.residual.specs.Blocks.{Way, way}
 use Rattle.sgrifomel.specs.Words.{packed, PacksBlock}
 use Rattle.sgrifomel.proofs.Places.{first-below, Small, small-unless, small-at}
@@ -37,14 +37,8 @@ small-then (accept a) f h g = g a refl
 small-then (refuse number i) f h g = h
 
 -- numbers 1 to 3 carry no place
-small-shift : (w h : ℕ) → Small (shift-of w h)
-small-shift w h = small-cond (among w h shift-0) _ _ tt (small-cond (among w h shift-1) _ _ tt (small-cond (among w h shift-2) _ _ tt (omega arith)))
-
-small-kinds : (w h type : ℕ) → Small (kinds-of w h type)
-small-kinds w h type = by-types (λ t. true) Small w h type (omega arith) (λ t a b. tt) tt
-
 small-plan : (w h type : ℕ) → Small (plan w h type)
-small-plan w h type = small-then (shift-of w h) (with-shift w h type) (small-shift w h) (λ s e. small-then (kinds-of w h type) (with-kinds w h s) (small-kinds w h type) (λ k f. tt))
+small-plan w h type = by-plan Small w h type (omega arith) (omega arith) (λ p. tt)
 
 pub small-depth : (n : ℕ) → Small (depth n)
 small-depth n = small-cond (eqb n 8) _ _ tt (small-cond (eqb n 10) _ _ tt (small-cond (eqb n 12) _ _ tt (omega arith)))
@@ -116,30 +110,18 @@ module _ (call : Call) (b : Block) where
   unfolding outcome
   small-block = small-outcome way (verdict call b) small-verdict
 
-  small-spec-block : spec-outcome call b .answer .place < 1024
+  pub small-spec-block : spec-outcome call b .answer .place < 1024
   unfolding spec-outcome
   small-spec-block = small-outcome av1-way (spec-verdict call b) small-spec-verdict
 
 -- so an answer that meets an outcome can be packed, and the word is the outcome's
-pub packable : (call : Call) (b : Block) {a : Answer} {ps : List ℕ} {c : List ℤ} → Meets call b a ps c → a .place < 1024
-packable call b m = subst⁻¹ (λ (a : Answer). a .place < 1024) (m .answer-is) (small-block call b)
+pub packable : {o : Outcome} {a : Answer} {ps : List ℕ} {c : List ℤ} → o .answer .place < 1024 → Meets o a ps c → a .place < 1024
+packable l m = subst⁻¹ (λ (a : Answer). a .place < 1024) (m .answer-is) l
 
-pub packs : {call asked : Call} {b given : Block} {a : Answer} {ps : List ℕ} {c : List ℤ} {w : ℕ} → asked ≡ call → given ≡ b → Meets asked given a ps c → w ≡ packed a → PacksBlock (outcome call b) w ps c
-packs p q m e =
+pub packs : {o asked : Outcome} {a : Answer} {ps : List ℕ} {c : List ℤ} {w : ℕ} → asked ≡ o → Meets asked a ps c → w ≡ packed a → PacksBlock o w ps c
+packs p m e =
     record {
-      answer = e ∙ ap packed (m .answer-is ∙ (λ i. outcome (p i) (q i) .answer));
-      pixels = m .pixels-are ∙ (λ i. outcome (p i) (q i) .pixels);
-      coefs = m .coefs-are ∙ (λ i. outcome (p i) (q i) .coefs);
-    }
-
--- the same for the second engine
-pub spec-packable : (call : Call) (b : Block) {a : Answer} {ps : List ℕ} {c : List ℤ} → SpecMeets call b a ps c → a .place < 1024
-spec-packable call b m = subst⁻¹ (λ (a : Answer). a .place < 1024) (m .answer-is) (small-spec-block call b)
-
-pub spec-packs : {call asked : Call} {b given : Block} {a : Answer} {ps : List ℕ} {c : List ℤ} {w : ℕ} → asked ≡ call → given ≡ b → SpecMeets asked given a ps c → w ≡ packed a → PacksBlock (spec-outcome call b) w ps c
-spec-packs p q m e =
-    record {
-      answer = e ∙ ap packed (m .answer-is ∙ (λ i. spec-outcome (p i) (q i) .answer));
-      pixels = m .pixels-are ∙ (λ i. spec-outcome (p i) (q i) .pixels);
-      coefs = m .coefs-are ∙ (λ i. spec-outcome (p i) (q i) .coefs);
+      answer = e ∙ ap packed (m .answer-is ∙ ap (λ (o : Outcome). o .answer) p);
+      pixels = m .pixels-are ∙ ap (λ (o : Outcome). o .pixels) p;
+      coefs = m .coefs-are ∙ ap (λ (o : Outcome). o .coefs) p;
     }

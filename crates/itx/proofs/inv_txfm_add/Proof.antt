@@ -1,14 +1,11 @@
 -- `itx::inv_txfm_add` meets its contract.
-use mathlib.Core.Path.{subst}
-use lib.IntN.{ℤ}
+use mathlib.Core.Path.{ap}
 use mir.Syntax.{w32}
 use mir.ValLaws.{toZ-ofZ}
 use borrow.Author.Needs.{needs}
 use Rattle.strided.specs.Planes.{lent}
-use Rattle.residual.specs.declared.Engine.the-variants.{First}
-use Rattle.residual.specs.Blocks.{way-by}
-use Rattle.itx.specs.Calls.{Block, Leaves, plain, outcome-of, verdict}
-use Rattle.itx.specs.Answers.{answer-of, block}
+use Rattle.itx.specs.Calls.{Block, plain}
+use Rattle.itx.specs.Answers.{block}
 use Rattle.itx.proofs.Second.{allowed-first, first-meets}
 use Rattle.itx.proofs.inv_txfm_add.Statement.{statement}
 use Rattle.itx.proofs.inv_txfm_add.Tie as tie
@@ -20,7 +17,7 @@ returns : tie.Need-returns
 returns c =
     let o = c .before .before .before in
     let s = o .before .before .before .before in
-    first-meets (plain (s .args .eob)) (given s) (subst (λ (z : ℤ). Leaves (outcome-of (way-by First) (plain z) (given s) (verdict (plain z) (given s))) (answer-of (o .plain .result)) (o .plain .last .1 .0) (o .plain .last .1 .1 .1 .0)) (toZ-ofZ w32 (s .args .eob) (s .fits .eob)) (o .plain .ensures))
+    first-meets (plain (s .args .eob)) (given s) (ap plain (toZ-ofZ w32 (s .args .eob) (s .fits .eob))) (o .transform .ensures)
 
 pub inv-txfm-add-spec : {M : Type 1} → statement M
 inv-txfm-add-spec = tie.close (tie.spec (λ c κs. allowed-first _) (λ c. search needs) (λ c. search needs) returns)

@@ -1,4 +1,5 @@
 -- `itx::inv_txfm_add_live` meets its contract.
+use mathlib.Core.Path.{refl}
 use borrow.Author.Needs.{needs}
 use Rattle.strided.specs.Planes.{lent}
 use Rattle.itx.specs.Calls.{Block, live}
@@ -14,7 +15,7 @@ returns : tie.Need-returns
 returns c =
     let o = c .before .before .before in
     let s = o .before .before .before .before in
-    first-meets (live (s .args .r)) (given s) (o .live .ensures)
+    first-meets (live (s .args .r)) (given s) refl (o .transform .ensures)
 
 pub inv-txfm-add-live-spec : {M : Type 1} → statement M
 inv-txfm-add-live-spec = tie.close (tie.spec (λ c κs. allowed-first _) (λ c. search needs) (λ c. search needs) returns)

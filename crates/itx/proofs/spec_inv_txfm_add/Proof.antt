@@ -1,16 +1,13 @@
 -- `itx::spec_inv_txfm_add` meets its contract.
-use mathlib.Core.Path.{_≡_, sym, _∙_, subst}
+use mathlib.Core.Path.{_≡_, sym, ap, _∙_}
 use mathlib.Core.Bool.{Bool}
-use lib.IntN.{ℤ}
 use mir.Syntax.{w32}
 use mir.ValLaws.{toZ-ofZ}
 use borrow.Author.Needs.{needs}
 use Rattle.strided.specs.Planes.{lent}
 use Rattle.levels.specs.Plans.{plan}
-use Rattle.residual.specs.declared.Engine.the-variants.{Spec}
-use Rattle.residual.specs.Blocks.{way-by}
-use Rattle.itx.specs.Calls.{Block, Leaves, plain, outcome-of, verdict}
-use Rattle.itx.specs.Answers.{answer-of, block, adst-planned}
+use Rattle.itx.specs.Calls.{Block, plain}
+use Rattle.itx.specs.Answers.{block, adst-planned}
 use Rattle.itx.proofs.Second.{allowed-spec, spec-meets, spec-refused}
 use Rattle.itx.proofs.spec_inv_txfm_add.Statement.{statement}
 use Rattle.itx.proofs.spec_inv_txfm_add.Tie as tie
@@ -27,7 +24,7 @@ returns-2 c =
     let o = c .before .before .before in
     let e = o .before .before .before in
     let s = e .before .before .before in
-    spec-meets (plain (s .args .eob)) (given s) (told (e .before) (e .if1 .left)) (subst (λ (z : ℤ). Leaves (outcome-of (way-by Spec) (plain z) (given s) (verdict (plain z) (given s))) (answer-of (o .plain .result)) (o .plain .last .1 .0) (o .plain .last .1 .1 .1 .0)) (toZ-ofZ w32 (s .args .eob) (s .fits .eob)) (o .plain .ensures))
+    spec-meets (plain (s .args .eob)) (given s) (ap plain (toZ-ofZ w32 (s .args .eob) (s .fits .eob))) (told (e .before) (e .if1 .left)) (o .transform .ensures)
 
 pub spec-inv-txfm-add-spec : {M : Type 1} → statement M
 spec-inv-txfm-add-spec =

@@ -1,5 +1,5 @@
 -- `itx::spec_inv_txfm_add_live` meets its contract.
-use mathlib.Core.Path.{_≡_, sym, _∙_}
+use mathlib.Core.Path.{_≡_, refl, sym, _∙_}
 use mathlib.Core.Bool.{Bool}
 use borrow.Author.Needs.{needs}
 use Rattle.strided.specs.Planes.{lent}
@@ -22,7 +22,7 @@ returns-2 c =
     let o = c .before .before .before in
     let e = o .before .before .before in
     let s = e .before .before .before in
-    spec-meets (live (s .args .r)) (given s) (told (e .before) (e .if1 .left)) (o .live .ensures)
+    spec-meets (live (s .args .r)) (given s) refl (told (e .before) (e .if1 .left)) (o .transform .ensures)
 
 pub spec-inv-txfm-add-live-spec : {M : Type 1} → statement M
 spec-inv-txfm-add-live-spec =
