@@ -15,3 +15,4 @@ pub mod Painting
 pub mod Accepted
 pub mod Unique
 pub mod Second
+pub mod Widths

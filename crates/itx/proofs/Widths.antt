@@ -1,0 +1,139 @@
+-- E2: eight-bit pages at their own width. The narrow calls promise the same outcome over a narrow plane, so everything that is proved of a block holds of
+-- theirs. Here: that it is the wide call's, and which numbers never occur.
+use mathlib.Core.Path.{_≡_, refl, ap, _∙_, subst⁻¹}
+use mathlib.Core.Bool.{Bool, true, false, cond, _&&_, _||_}
+use mathlib.Core.List.{List, [], _∷_, _++_}
+use mathlib.Core.Option.{Option, none, some}
+use Prim.Native.Nat.{ℕ, _+_, _*_, _/_, _%_, _≤_}
+use borrow.Author.Tests.{le-ltb}
+use lib.Dec.{T, eqb, ltb}
+use lib.IntN.{ℤ, pos}
+use lib.ListN.{getD, length, set, replicate, drop}
+use mir.Facts.{and-yes}
+use Rattle.whole.specs.Numbers.{outside, low, high}
+use Rattle.whole.specs.Lists.{at}
+use Rattle.whole.specs.Checks.{Check, accept, refuse, then, unless-at, Line, when, judged}
+use Rattle.whole.proofs.Counts.{none-first}
+use Rattle.itx_1d.specs.Calls.{acceptance}
+use Rattle.bitdepth.specs.declared.Depth.{Depth}
+use Rattle.bitdepth.specs.declared.Depth.the-variants.{Eight}
+use Rattle.bitdepth.specs.Depths.{maximum}
+use Rattle.levels.specs.declared.Plan.{Plan}
+use Rattle.levels.specs.Plans.{plan}
+use Rattle.strided.specs.declared.Spot.{Spot}
+use Rattle.strided.specs.declared.View.{View}
+use Rattle.strided.specs.declared.Width.the-variants.{Narrow}
+use Rattle.strided.specs.Planes.{bad-view, spot, spot-outside, begins, lent, lent-8}
+use Rattle.strided.proofs.Widths.{doubled, same-spot, same-stride}
+use Rattle.residual.specs.Blocks.{way, residual, marked, shortcut}
+use Rattle.pixels.specs.Above.{above, first-above}
+use Rattle.pixels.specs.Adds.{add-rows}
+use Rattle.itx.specs.Calls.{Block, Call, eob-line, rows-line, count-line, lengths-lines, range-line, stray-line, pixel-line, table, with-depth, verdict, Outcome, short, live-rows, by-shortcut, by-passes, outcome-of, outcome}
+use Rattle.itx.specs.Answers.{block}
+use Rattle.itx.proofs.Verdicts.{by-plan}
+
+-- a line that finds nothing can be left out
+left-out : {A : Type 0} (ls : List (Line A)) (l : Line A) (ms : List (Line A)) (a : A) → l .1 a ≡ none → judged (ls ++ l ∷ ms) a ≡ judged (ls ++ ms) a
+left-out [] l ms a e = λ i. unless-at (e i) (l .0) (judged ms a)
+left-out (k ∷ ls) l ms a e = λ i. unless-at (k .1 a) (k .0) (left-out ls l ms a e i)
+
+neither : (t u : Bool) → u ≡ false → t && u ≡ false
+neither true u e = e
+neither false u e = refl
+
+-- no byte is above 255
+above-none : (ps : List ℕ) → ((i : ℕ) → getD ps i 0 ≤ 255) → (s : Spot) (w : ℕ) → first-above 255 ps s w ≡ none
+above-none ps bytes s w = none-first (s .rows * w) (above 255 ps s w) (λ j l. neither (ltb (j % w) (s .columns)) _ (le-ltb 255 _ (bytes _)))
+
+-- a table answers by its own numbers
+abbrev has : ℕ → List ℕ → Bool
+has n [] = false
+has n (m ∷ ms) = eqb n m || has n ms
+
+abbrev all-in : {A : Type 0} → List ℕ → List (Line A) → Bool
+all-in ns [] = true
+all-in ns (l ∷ ls) = has (l .0) ns && all-in ns ls
+
+abbrev Among : {A : Type 0} → List ℕ → Check A → Type 0
+Among ns (accept a) = Unit {0}
+Among ns (refuse n i) = T (has n ns)
+
+judged-among : (A : Type 0) (ns : List ℕ) (ls : List (Line A)) (a : A) → T (all-in ns ls) → Among ns (judged ls a)
+judged-among A ns [] a t = tt
+judged-among A ns (l ∷ ls) a t = let b = and-yes (has (l .0) ns) (all-in ns ls) t in go (l .1 a) (judged ls a) (b .0) (judged-among A ns ls a (b .1))
+  where
+    go : (o : Option ℕ) (k : Check A) → T (has (l .0) ns) → Among ns k → Among ns (unless-at o (l .0) k)
+    go (some i) k f g = f
+    go none k f g = g
+
+module _ (call : Call) (w h type : ℕ) (c : List ℤ) (ps : List ℕ) (v : View) where
+  -- the block as the narrow call is given it, and as the wide one would be
+  abbrev pub narrow : Block
+  narrow = block w h type 8 c (lent-8 ps v)
+
+  abbrev pub wide : Block
+  wide = block w h type 8 c (lent ps (doubled v))
+
+  same-table : table call narrow ≡ table call wide
+  same-table = λ i.
+      eob-line call ∷ rows-line call ∷ count-line (length c)
+      ∷ (20, λ a. when (bad-view (a .0 .w) (a .0 .h) v))
+      ∷ (7, λ a. when (same-stride (a .0 .w) v i))
+      ∷ (8, λ a. when (spot-outside (length ps) (same-spot v i)))
+      ∷ range-line c ∷ stray-line call c ∷ pixel-line ps (same-spot v i) ∷ []
+
+  same-verdict : verdict call narrow ≡ verdict call wide
+  same-verdict = ap (λ (t : List (Line (Plan × Depth))). then (then (plan w h type) (with-depth 8)) (judged t)) same-table
+
+  same-left : (k : Check (Plan × Depth)) → outcome-of way call narrow k ≡ outcome-of way call wide k
+  same-left (refuse n i) = refl
+  same-left (accept (p, d)) =
+      let n = p .w * p .h in
+      let r = live-rows call p in
+      let painted : (ℕ → ℕ) → (ℕ → ℕ → ℤ) → List ℕ = λ f u. add-rows (maximum d) ps f u (v .columns) (v .rows) in
+      λ i. cond (short call p)
+      (record { answer = acceptance false; pixels = painted (begins (same-spot v i)) (λ y x. shortcut p (at c 0)); coefs = set c 0 (pos 0) })
+      (record { answer = acceptance (marked (way p d) c r); pixels = painted (begins (same-spot v i)) (residual (way p d) c r); coefs = replicate n (pos 0) ++ drop n c })
+
+  -- "It equals the wide form on the same numbers with twice the stride"
+  pub narrow-is-wide : outcome call narrow ≡ outcome call wide
+  unfolding outcome
+  narrow-is-wide = same-left (verdict call narrow) ∙ ap (outcome-of way call wide) same-verdict
+
+  -- what an [i16] and a [u8] hold
+  module _ (held : (i : ℕ) → outside (at c i) (low 32768) (high 32768) ≡ false) (bytes : (i : ℕ) → getD ps i 0 ≤ 255) where
+    abbrev pub narrow-lines : List (Line (Plan × Depth))
+    narrow-lines = lengths-lines call (length c) Narrow (length ps) v ++ stray-line call c ∷ []
+
+    -- "3, 9, 21 and an odd stride never occur": neither 9 nor 21 applies, 3 is no check of depth 8, and 7 of a narrow plane speaks of its length alone
+    pub narrow-verdict : verdict call narrow ≡ then (then (plan w h type) (with-depth 8)) (judged narrow-lines)
+    narrow-verdict = go (plan w h type)
+      where
+        here : (p : Plan) → judged (table call narrow) (p, Eight) ≡ judged narrow-lines (p, Eight)
+        here p =
+            let front = lengths-lines call (length c) Narrow (length ps) v in
+            left-out front (range-line c) (stray-line call c ∷ pixel-line ps (spot Narrow v) ∷ []) (p, Eight) (none-first (p .w * p .h) _ (λ i l. held i))
+            ∙ left-out (front ++ stray-line call c ∷ []) (pixel-line ps (spot Narrow v)) [] (p, Eight) (above-none ps bytes (spot Narrow v) (p .w))
+
+        go : (k : Check Plan) → then (then k (with-depth 8)) (judged (table call narrow)) ≡ then (then k (with-depth 8)) (judged narrow-lines)
+        go (accept p) = here p
+        go (refuse n i) = refl
+
+    -- so these are all the numbers that a narrow call answers
+    abbrev pub narrow-numbers : List ℕ
+    narrow-numbers = 0 ∷ 1 ∷ 2 ∷ 4 ∷ 5 ∷ 6 ∷ 20 ∷ 7 ∷ 8 ∷ 10 ∷ []
+
+    pub never-others : T (has (outcome call narrow .answer .number) narrow-numbers)
+    unfolding outcome
+    never-others = answered (verdict call narrow) (subst⁻¹ (Among narrow-numbers) narrow-verdict among)
+      where
+        among : Among narrow-numbers (then (then (plan w h type) (with-depth 8)) (judged narrow-lines))
+        among = by-plan (λ k. Among narrow-numbers (then (then k (with-depth 8)) (judged narrow-lines))) w h type tt tt (λ p. judged-among (Plan × Depth) narrow-numbers narrow-lines (p, Eight) tt)
+
+        done : (s : Bool) (a b : Outcome) → a .answer .number ≡ 0 → b .answer .number ≡ 0 → T (has (cond s a b .answer .number) narrow-numbers)
+        done true a b e f = subst⁻¹ (λ (n : ℕ). T (has n narrow-numbers)) e tt
+        done false a b e f = subst⁻¹ (λ (n : ℕ). T (has n narrow-numbers)) f tt
+
+        answered : (k : Check (Plan × Depth)) → Among narrow-numbers k → T (has (outcome-of way call narrow k .answer .number) narrow-numbers)
+        answered (refuse n i) t = t
+        answered (accept (p, d)) t = done (short call p) (by-shortcut narrow p d) (by-passes narrow p d (way p d) (live-rows call p)) refl refl
