@@ -101,8 +101,20 @@ uint64_t sgrifomel_inv_txfm_add_live(uint16_t *dst, size_t dst_len, uint32_t off
                                      size_t rows, int32_t *coeff, size_t coeff_len, size_t r, size_t w, size_t h,
                                      size_t txtp, size_t depth);
 
-/* The same two calls by the second engine, which takes the steps of section 7.13 of the AV1 specification: no clip within a
-   pass. Pixels and coefficients are those of the calls above wherever their mark is 0. Its own mark is always 0. Types with an
+/* The narrow calls: the two above, which are the wide ones, for pages of depth 8 at their own width, with 8-bit pixels and
+   16-bit coefficients. stride counts bytes, which are pixels here, so it may be odd: row y starts at pixel
+   offset + y * stride. The word and the refusals are those of the wide call on the same numbers at depth 8 with twice the
+   stride, and so are the pixels and coefficients that are left. 3, 9 and 21 never occur, and 7 only where stride lies
+   between -(w-1) and w-1. */
+uint64_t sgrifomel_inv_txfm_add_8bpc(uint8_t *dst, size_t dst_len, uint32_t offset, int32_t stride, size_t columns,
+                                     size_t rows, int16_t *coeff, size_t coeff_len, int32_t eob, size_t w, size_t h,
+                                     size_t txtp);
+uint64_t sgrifomel_inv_txfm_add_live_8bpc(uint8_t *dst, size_t dst_len, uint32_t offset, int32_t stride, size_t columns,
+                                          size_t rows, int16_t *coeff, size_t coeff_len, size_t r, size_t w, size_t h,
+                                          size_t txtp);
+
+/* The wide calls by the second engine, which takes the steps of section 7.13 of the AV1 specification: no clip within a
+   pass. Pixels and coefficients are those of the first engine wherever its mark is 0. Its own mark is always 0. Types with an
    ADST or FLIPADST are refused by 2. It is slow: it is there to be read, and to be compared with. */
 uint64_t sgrifomel_spec_inv_txfm_add(uint16_t *dst, size_t dst_len, uint32_t offset, int32_t stride, size_t columns,
                                      size_t rows, int32_t *coeff, size_t coeff_len, int32_t eob, size_t w, size_t h,
