@@ -22,8 +22,10 @@ impl Answer {
         Answer { number: 0, place: 0, mark }
     }
 
-    /// As the exported functions pack it: the number in bits 0 to 7, the mark in bit 8, the place from bit 16 up.
+    /// As the exported functions pack it: the number in bits 0 to 7, the mark in bit 8, the place from bit 16 up. The bits
+    /// between are 0.
     pub fn unpacked(word: u64) -> Answer {
+        assert_eq!(word & 0xfe00, 0, "the answer is {word:#x}");
         Answer { number: word & 0xff, place: word >> 16, mark: word & 0x100 != 0 }
     }
 }
@@ -79,9 +81,11 @@ pub enum Way {
     Live(usize),
 }
 
-/// A two-dimensional call. The stride counts bytes, the offset pixels; columns and rows are those that are visible.
+/// A two-dimensional call. The stride counts bytes, the offset pixels; columns and rows are those that are visible. A pixel
+/// has 2 bytes, or 1 in the calls of request E2, whose numbers are held here at the others' width.
 #[derive(Clone, Debug)]
 pub struct BlockCall {
+    pub pixel_bytes: i32,
     pub plane: Vec<u16>,
     pub offset: u32,
     pub stride: i32,
@@ -107,7 +111,7 @@ impl BlockCall {
             .or_else(|| number(5, matches!(self.way, Way::Live(r) if !(1..=h).contains(&r))))
             .or_else(|| number(6, self.coeff.len() < w * h))
             .or_else(|| number(20, !(1..=w).contains(&self.columns) || !(1..=h).contains(&self.rows)))
-            .or_else(|| number(7, self.stride % 2 != 0 || self.pixel_stride().unsigned_abs() < w as u64))
+            .or_else(|| number(7, self.stride % self.pixel_bytes != 0 || self.pixel_stride().unsigned_abs() < w as u32))
             .or_else(|| number(8, (0..self.rows).any(|y| self.row(y).is_none())))
             .or_else(|| self.offender(9, |v, _| !cases::row_range(self.depth).contains(&v)))
             .or_else(|| match self.way {
@@ -133,13 +137,13 @@ impl BlockCall {
         self.starts().enumerate().find_map(in_row)
     }
 
-    fn pixel_stride(&self) -> i64 {
-        i64::from(self.stride) / 2
+    fn pixel_stride(&self) -> i32 {
+        self.stride / self.pixel_bytes
     }
 
     /// Where row y starts, if its visible part lies wholly inside the plane.
     fn row(&self, y: usize) -> Option<usize> {
-        let start = i64::from(self.offset) + y as i64 * self.pixel_stride();
+        let start = i64::from(self.offset) + y as i64 * i64::from(self.pixel_stride());
         let start = usize::try_from(start).ok()?;
         (start + self.columns <= self.plane.len()).then_some(start)
     }
@@ -166,7 +170,12 @@ impl BlockCall {
         for (to, at) in plane.chunks_mut(self.w).zip(self.starts()) {
             to[..self.columns].copy_from_slice(&self.plane[at..][..self.columns]);
         }
-        BlockCall { plane, offset: 0, stride: 2 * self.w as i32, ..self.clone() }
+        BlockCall { plane, offset: 0, stride: self.dense(), ..self.clone() }
+    }
+
+    /// The stride of rows with nothing between them.
+    fn dense(&self) -> i32 {
+        self.pixel_bytes * self.w as i32
     }
 
     /// The call with nothing beyond its block, if it is smaller so.
@@ -175,11 +184,29 @@ impl BlockCall {
             return None;
         }
         let pixels = (self.rows - 1) * self.w + self.columns;
-        if self.plane.len() == pixels && self.stride == 2 * self.w as i32 {
+        if self.plane.len() == pixels && self.stride == self.dense() {
             return None;
         }
         let coeff = self.coeff[..self.w * self.h].to_vec();
         Some(BlockCall { coeff, ..self.laid_out(pixels) })
+    }
+
+    /// The call at 8 bits a pixel and 16 a coefficient: each number loses what is above, and the depth is 8.
+    pub fn narrow(&self) -> BlockCall {
+        BlockCall {
+            pixel_bytes: 1,
+            plane: self.plane.iter().map(|&p| (p as u8).into()).collect(),
+            stride: self.pixel_stride(),
+            coeff: self.coeff.iter().map(|&v| (v as i16).into()).collect(),
+            depth: 8,
+            ..self.clone()
+        }
+    }
+
+    /// A narrow call's numbers by the wide call, with twice the stride, if that fits.
+    pub fn wide(&self) -> Option<BlockCall> {
+        let stride = self.stride.checked_mul(2)?;
+        (self.pixel_bytes == 1).then(|| BlockCall { pixel_bytes: 2, stride, ..self.clone() })
     }
 
     /// An accepted call on a padded plane: all is visible. A call that is whole is that already.

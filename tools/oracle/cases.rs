@@ -252,6 +252,7 @@ pub fn block_call(rng: &mut Rng, record: &Record) -> BlockCall {
     let mut coeff = record.coeff.clone();
     coeff.extend((0..rng.below(9)).map(|_| rng.any_i32()));
     BlockCall {
+        pixel_bytes: 2,
         plane,
         offset: offset as u32,
         stride: if down { 2 * width as i32 } else { -2 * width as i32 },
@@ -283,8 +284,10 @@ pub fn damage_block(rng: &mut Rng, call: &mut BlockCall) {
         }
         5 => call.coeff.truncate(call.w.saturating_mul(call.h).saturating_sub(small % 2)),
         6 => {
-            let (odd, even) = (call.stride.saturating_add(1), 2 * small as i32);
-            call.stride = rng.pick(&[0, odd, even, -even, i32::MIN, i32::MAX]);
+            // Any pixel stride, and those about w.
+            let [some, near] = [small as i32, (call.w.min(64) + small % 3) as i32 - 1].map(|n| call.pixel_bytes * n);
+            let next = call.stride.saturating_add(1);
+            call.stride = rng.pick(&[0, next, some, -some, near, -near, i32::MIN, i32::MAX]);
         }
         7 => call.plane.truncate(rng.below(call.plane.len() + 1)),
         8 => call.offset = rng.pick(&[0, call.offset.saturating_add(small as u32), small as u32, u32::MAX]),

@@ -75,5 +75,5 @@ pub fn places_of<T: Copy + PartialEq + Into<i64>>(numbers: &[T]) -> String {
 /// Where two lists of one length first differ.
 pub fn first_difference<T: PartialEq + std::fmt::Display>(name: &str, wanted: &[T], got: &[T]) -> Option<String> {
     let at = (0..wanted.len()).find(|&at| wanted[at] != got[at])?;
-    Some(format!("{name} {at}: Rust {}, here {}", wanted[at], got[at]))
+    Some(format!("{name} {at}: wanted {}, here {}", wanted[at], got[at]))
 }

@@ -1,6 +1,7 @@
 //! Compares the exported calls with the Rust: compare_2d [COUNT [SEED]], COUNT blocks for each size, type and depth, each
 //! by the plain call and by the live-row call with every r that covers it, half of them with some pixels not visible.
-//! Some go by the second engine too, which is held to the Rust where there is no mark.
+//! Some go by the second engine too, which is held to the Rust where there is no mark. Those at depth 8 go by the narrow
+//! calls too, which are held to the Rust and to the wide calls.
 
 use kernels::calls::{Answer, BlockCall, Way};
 use kernels::cases::{self, Rng, Shape};
@@ -48,21 +49,39 @@ impl Engine {
 fn got(engine: Engine, call: &BlockCall) -> Outcome {
     let (mut plane, mut coeff) = (call.plane.clone(), call.coeff.clone());
     let &BlockCall { offset: at, stride, columns: x, rows: y, w, h, txtp: t, depth: d, .. } = call;
-    let (dst, dst_len) = (plane.as_mut_ptr(), plane.len());
-    let (c, c_len) = (coeff.as_mut_ptr(), coeff.len());
     macro_rules! by {
-        ($name:ident, $last:ident) => {
+        ($name:ident, $plane:ident, $coeff:ident, $last:ident $(, $depth:ident)?) => {{
+            let (dst, dst_len) = ($plane.as_mut_ptr(), $plane.len());
+            let (c, c_len) = ($coeff.as_mut_ptr(), $coeff.len());
             // SAFETY: each pointer and length are those of one vector; the calls ask for nothing else.
-            unsafe { $name(dst, dst_len, at, stride, x, y, c, c_len, $last, w, h, t, d) }
+            unsafe { $name(dst, dst_len, at, stride, x, y, c, c_len, $last, w, h, t $(, $depth)?) }
+        }};
+    }
+    if call.pixel_bytes == 1 {
+        let mut bytes: Vec<u8> = plane.into_iter().map(|p| p as u8).collect();
+        let mut shorts: Vec<i16> = coeff.into_iter().map(|v| v as i16).collect();
+        let word = match call.way {
+            Way::Plain(eob) => by!(sgrifomel_inv_txfm_add_8bpc, bytes, shorts, eob),
+            Way::Live(r) => by!(sgrifomel_inv_txfm_add_live_8bpc, bytes, shorts, r),
         };
+        let (plane, coeff) = (bytes.into_iter().map(u16::from), shorts.into_iter().map(i32::from));
+        return (Answer::unpacked(word), plane.collect(), coeff.collect());
     }
     let word = match (engine, call.way) {
-        (Engine::First, Way::Plain(eob)) => by!(sgrifomel_inv_txfm_add, eob),
-        (Engine::First, Way::Live(r)) => by!(sgrifomel_inv_txfm_add_live, r),
-        (Engine::Second, Way::Plain(eob)) => by!(sgrifomel_spec_inv_txfm_add, eob),
-        (Engine::Second, Way::Live(r)) => by!(sgrifomel_spec_inv_txfm_add_live, r),
+        (Engine::First, Way::Plain(eob)) => by!(sgrifomel_inv_txfm_add, plane, coeff, eob, d),
+        (Engine::First, Way::Live(r)) => by!(sgrifomel_inv_txfm_add_live, plane, coeff, r, d),
+        (Engine::Second, Way::Plain(eob)) => by!(sgrifomel_spec_inv_txfm_add, plane, coeff, eob, d),
+        (Engine::Second, Way::Live(r)) => by!(sgrifomel_spec_inv_txfm_add_live, plane, coeff, r, d),
     };
     (Answer::unpacked(word), plane, coeff)
+}
+
+/// In what an outcome differs from the one that is wanted of it.
+fn apart(wanted: &Outcome, here: &Outcome) -> Option<String> {
+    if wanted.0 != here.0 {
+        return Some(format!("wanted {:?}, here {:?}", wanted.0, here.0));
+    }
+    first_difference("pixel", &wanted.1, &here.1).or_else(|| first_difference("coefficient", &wanted.2, &here.2))
 }
 
 #[derive(Clone)]
@@ -83,12 +102,9 @@ impl Compared {
 impl Case for Compared {
     fn difference(&self) -> Option<String> {
         let &Compared(ref call, engine) = self;
-        let ((wanted, plane_after, coeff_after), (answer, plane, coeff)) = (engine.wanted(call), got(engine, call));
-        if wanted != answer {
-            return Some(format!("wanted {wanted:?}, here {answer:?}"));
-        }
-        first_difference("pixel", &plane_after, &plane)
-            .or_else(|| first_difference("coefficient", &coeff_after, &coeff))
+        let here = got(engine, call);
+        let beside_wide = |wide| Some(format!("beside the wide call: {}", apart(&got(engine, &wide), &here)?));
+        apart(&engine.wanted(call), &here).or_else(|| call.wide().and_then(beside_wide))
     }
 
     fn places(&self) -> usize {
@@ -123,20 +139,22 @@ impl Case for Compared {
     }
 
     fn describe(&self) -> String {
-        let BlockCall { plane, offset, stride, columns, rows, coeff, way, w, h, txtp, depth } = &self.0;
+        let BlockCall { pixel_bytes, plane, offset, stride, columns, rows, coeff, way, w, h, txtp, depth } = &self.0;
         let (plane, coeff) = (places_of(plane), places_of(coeff));
         let engine = if self.1 == Engine::First { "first" } else { "second" };
         format!(
-            "{engine} engine, {w}x{h}, type {txtp}, depth {depth}, {way:?}, offset {offset}, byte stride {stride}, \
-             {columns} columns and {rows} rows visible\nplane: {plane}\ncoefficients: {coeff}"
+            "{engine} engine, bytes a pixel {pixel_bytes}, {w}x{h}, type {txtp}, depth {depth}, {way:?}, offset {offset}, \
+             byte stride {stride}, {columns} columns and {rows} rows visible\nplane: {plane}\ncoefficients: {coeff}"
         )
     }
 }
 
-/// How many calls were made, and of them: accepted with not all visible, marked by the Rust, refused by each number.
+/// How many calls were made, and of them: held to the wide call too, accepted with not all visible, marked by the Rust,
+/// refused by each number.
 #[derive(Default)]
 struct Counts {
     calls: usize,
+    beside_wide: usize,
     cropped: usize,
     marked: usize,
     refused: BTreeMap<u64, usize>,
@@ -146,6 +164,7 @@ impl Counts {
     fn hold(&mut self, call: BlockCall, engine: Engine) {
         let (first, ..) = call.wanted();
         self.calls += 1;
+        self.beside_wide += usize::from(call.wide().is_some());
         match engine.number(&call, first.number) {
             0 => {
                 self.cropped += usize::from(!call.is_whole());
@@ -158,6 +177,7 @@ impl Counts {
 
     fn add(&mut self, other: Counts) {
         self.calls += other.calls;
+        self.beside_wide += other.beside_wide;
         self.cropped += other.cropped;
         self.marked += other.marked;
         for (number, count) in other.refused {
@@ -166,7 +186,7 @@ impl Counts {
     }
 
     fn report(&self, of: &str) {
-        let Counts { calls, cropped, marked, refused } = self;
+        let Counts { calls, cropped, marked, refused, .. } = self;
         let refused: usize = refused.values().sum();
         println!("{of}: {calls} calls the same, {cropped} cropped, {marked} marked, {refused} refused");
     }
@@ -177,44 +197,75 @@ impl Counts {
     }
 }
 
+/// Of the first engine's wide calls, of the second engine's, and of the narrow calls.
+#[derive(Default)]
+struct Sums {
+    first: Counts,
+    second: Counts,
+    narrow: Counts,
+}
+
 /// One block by the plain call, by every live-row call that covers it, and both ways damaged. By the second engine once.
-fn compare_block(rng: &mut Rng, shape: Shape, first: &mut Counts, second: &mut Counts) {
+/// At depth 8 as well by the narrow calls.
+fn compare_block(rng: &mut Rng, shape: Shape, sums: &mut Sums) {
     let record = cases::record(rng, shape);
     let plain = cases::block_call(rng, &record);
     let h = shape.h;
     let live_rows = record.coeff.iter().enumerate().filter(|&(_, &v)| v != 0).map(|(p, _)| p % h + 1).max();
     let least = live_rows.unwrap_or(1);
-    first.hold(plain.clone(), Engine::First);
-    for r in least..=h {
-        first.hold(BlockCall { way: Way::Live(r), ..plain.clone() }, Engine::First);
-    }
     let ways = [plain.way, Way::Live(least + rng.below(h + 1 - least))];
-    second.hold(BlockCall { way: rng.pick(&ways), ..plain.clone() }, Engine::Second);
-    for way in ways {
-        let mut call = BlockCall { way, ..plain.clone() };
-        // Twice now and then: the first number that applies is the answer.
+    // Twice now and then: the first number that applies is the answer.
+    let mut damaged = |call: &BlockCall, way: Way| {
+        let mut call = BlockCall { way, ..call.clone() };
         for _ in 0..1 + rng.below(2) {
             cases::damage_block(rng, &mut call);
         }
-        first.hold(call.clone(), Engine::First);
-        second.hold(call, Engine::Second);
+        call
+    };
+    let covering = |call: &BlockCall, counts: &mut Counts| {
+        counts.hold(call.clone(), Engine::First);
+        for r in least..=h {
+            counts.hold(BlockCall { way: Way::Live(r), ..call.clone() }, Engine::First);
+        }
+    };
+    covering(&plain, &mut sums.first);
+    for way in ways {
+        let call = damaged(&plain, way);
+        sums.first.hold(call.clone(), Engine::First);
+        sums.second.hold(call, Engine::Second);
     }
+    if shape.depth == 8 {
+        let plain = plain.narrow();
+        covering(&plain, &mut sums.narrow);
+        for way in ways {
+            // What the damage put in is brought to the width.
+            sums.narrow.hold(damaged(&plain, way).narrow(), Engine::First);
+        }
+    }
+    sums.second.hold(BlockCall { way: rng.pick(&ways), ..plain }, Engine::Second);
 }
 
 fn main() {
     let (count, mut rng) = count_and_rng(400);
-    let (mut all, mut second) = (Counts::default(), Counts::default());
+    let mut all = Sums::default();
     for shape in cases::block_shapes() {
-        let mut first = Counts::default();
+        let mut sums = Sums::default();
         for _ in 0..count {
-            compare_block(&mut rng, shape, &mut first, &mut second);
+            compare_block(&mut rng, shape, &mut sums);
         }
         let Shape { w, h, txtp, depth } = shape;
-        first.report(&format!("{w}x{h}, type {txtp}, depth {depth}"));
-        all.add(first);
+        let of = format!("{w}x{h}, type {txtp}, depth {depth}");
+        sums.first.report(&of);
+        if depth == 8 {
+            sums.narrow.report(&format!("{of}, narrow"));
+        }
+        all.first.add(sums.first);
+        all.second.add(sums.second);
+        all.narrow.add(sums.narrow);
     }
-    all.report("in all");
-    all.report_numbers();
-    second.report("second engine");
-    second.report_numbers();
+    for (of, counts) in [("in all", &all.first), ("second engine", &all.second), ("narrow", &all.narrow)] {
+        counts.report(of);
+        counts.report_numbers();
+    }
+    println!("narrow, held to the wide call too: {}", all.narrow.beside_wide);
 }

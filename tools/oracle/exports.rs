@@ -29,30 +29,34 @@ extern "C" {
     pub fn sgrifomel_inv_wht4_1d(c: *mut i32, len: usize, stride: usize) -> u64;
 }
 
-macro_rules! blocks {
-    ($last:ident: $number:ty, $($name:ident),*) => {
+macro_rules! block {
+    ($name:ident, $pixel:ty, $coef:ty, $last:ident: $number:ty $(, $depth:ident)?) => {
         extern "C" {
-            $(pub fn $name(
-                dst: *mut u16,
+            pub fn $name(
+                dst: *mut $pixel,
                 dst_len: usize,
                 offset: u32,
                 stride_bytes: i32,
                 columns: usize,
                 rows: usize,
-                coeff: *mut i32,
+                coeff: *mut $coef,
                 coeff_len: usize,
                 $last: $number,
                 w: usize,
                 h: usize,
                 txtp: usize,
-                depth: usize,
-            ) -> u64;)*
+                $($depth: usize,)?
+            ) -> u64;
         }
     };
 }
 
-blocks!(eob: i32, sgrifomel_inv_txfm_add, sgrifomel_spec_inv_txfm_add);
-blocks!(r: usize, sgrifomel_inv_txfm_add_live, sgrifomel_spec_inv_txfm_add_live);
+block!(sgrifomel_inv_txfm_add, u16, i32, eob: i32, depth);
+block!(sgrifomel_inv_txfm_add_live, u16, i32, r: usize, depth);
+block!(sgrifomel_inv_txfm_add_8bpc, u8, i16, eob: i32);
+block!(sgrifomel_inv_txfm_add_live_8bpc, u8, i16, r: usize);
+block!(sgrifomel_spec_inv_txfm_add, u16, i32, eob: i32, depth);
+block!(sgrifomel_spec_inv_txfm_add_live, u16, i32, r: usize, depth);
 
 extern "C" {
     pub fn sgrifomel_fwd_wht4x4(

@@ -17,6 +17,7 @@ impl Record {
     /// The plain call on the record's own pixels, all of them visible.
     pub fn call(&self) -> BlockCall {
         BlockCall {
+            pixel_bytes: 2,
             plane: self.pixels.clone(),
             offset: 0,
             stride: 2 * self.w as i32,

@@ -47,7 +47,8 @@ impl Residual {
         let sum: Vec<u16> = self.pixels.iter().zip(&self.r).map(|(&p, &r)| (i32::from(p) + r) as u16).collect();
         let (plane, way, depth) = (self.pixels.clone(), Way::Plain(self.eob), self.depth);
         let (columns, rows, w, h, txtp) = (4, 4, 4, 4, WHT_WHT);
-        let call = BlockCall { plane, offset: 0, stride: 8, columns, rows, coeff, way, w, h, txtp, depth };
+        let (pixel_bytes, offset, stride) = (2, 0, 8);
+        let call = BlockCall { pixel_bytes, plane, offset, stride, columns, rows, coeff, way, w, h, txtp, depth };
         let (answer, by_rust, _) = call.wanted();
         if answer != Answer::accepted(false) {
             return Some(format!("the plain call is to answer {answer:?}"));
