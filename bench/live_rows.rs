@@ -1,8 +1,8 @@
 //! Times 32x32 DCT_DCT blocks at depth 8 with four nonzero rows: the Rust's long way, and the live-row call (r = 4) and
-//! the plain call of `libsgrifomel.a`, on the same numbers. live_rows [BLOCKS [RUNS]]: each of the three does BLOCKS
-//! blocks in RUNS runs.
+//! the plain call of `libsgrifomel.a`, wide and narrow, on the same numbers. live_rows [BLOCKS [RUNS]]: each of the five does
+//! BLOCKS blocks in RUNS runs.
 
-use kernels::exports::{sgrifomel_inv_txfm_add, sgrifomel_inv_txfm_add_live};
+use kernels::exports::*;
 use kernels::itx;
 use kernels::shim::{BitDepth8, DCT_DCT};
 use std::env;
@@ -15,10 +15,11 @@ const LIVE_ROWS: usize = 4;
 /// So many blocks are laid out, then timed together: the calls clear what they read, and laying out is not timed.
 const BATCH: usize = 50;
 
-/// The three that are timed, in the order of the report.
-const NAMES: [&str; 3] = ["the Rust, long way", "live-row call, r = 4", "plain call"];
+/// Those that are timed, in the order of the report.
+const NAMES: [&str; 5] =
+    ["the Rust, long way", "live-row call, r = 4", "plain call", "narrow live-row call, r = 4", "narrow plain call"];
 
-/// A batch at both widths: the Rust's i16 and u8, ours i32 and u16.
+/// A batch at both widths: i32 and u16, and i16 and u8, which are the Rust's and the narrow calls'.
 struct Batch {
     coeff: Vec<i32>,
     pixels: Vec<u16>,
@@ -55,7 +56,7 @@ impl Batch {
         self.narrow_pixels.copy_from_slice(&from.narrow_pixels);
     }
 
-    /// One batch by one of the three.
+    /// One batch by one of those.
     fn time(&mut self, which: usize) -> Duration {
         let blocks = self.coeff.chunks_exact_mut(AREA).zip(self.pixels.chunks_exact_mut(AREA));
         let narrow = self.narrow_coeff.chunks_exact_mut(AREA).zip(self.narrow_pixels.chunks_exact_mut(AREA));
@@ -63,9 +64,20 @@ impl Batch {
         match which {
             0 => narrow.for_each(|(coeff, pixels)| rust(coeff, pixels)),
             1 => blocks.for_each(|(coeff, pixels)| live(coeff, pixels)),
-            _ => blocks.for_each(|(coeff, pixels)| plain(coeff, pixels)),
+            2 => blocks.for_each(|(coeff, pixels)| plain(coeff, pixels)),
+            3 => narrow.for_each(|(coeff, pixels)| narrow_live(coeff, pixels)),
+            _ => narrow.for_each(|(coeff, pixels)| narrow_plain(coeff, pixels)),
         }
         start.elapsed()
+    }
+
+    /// What a call has left, at the wider width.
+    fn left(&self, which: usize) -> (Vec<u16>, Vec<i32>) {
+        if let 1 | 2 = which {
+            return (self.pixels.clone(), self.coeff.clone());
+        }
+        let coeff = self.narrow_coeff.iter().map(|&v| v.into());
+        (self.narrow_pixels.iter().map(|&p| p.into()).collect(), coeff.collect())
     }
 }
 
@@ -73,31 +85,33 @@ fn rust(coeff: &mut [i16], pixels: &mut [u8]) {
     itx::add::<SIDE, SIDE, DCT_DCT, BitDepth8>(pixels, 0, SIDE as isize, coeff, black_box(1), BitDepth8);
 }
 
-fn live(coeff: &mut [i32], pixels: &mut [u16]) {
-    let (dst, c) = (pixels.as_mut_ptr(), coeff.as_mut_ptr());
-    // SAFETY: each pointer and length are those of one slice; the call asks for nothing else.
-    let word =
-        unsafe { sgrifomel_inv_txfm_add_live(dst, AREA, 0, 64, SIDE, SIDE, c, AREA, LIVE_ROWS, SIDE, SIDE, 0, 8) };
-    assert_eq!(word & 0xff, 0, "refused");
+macro_rules! ours {
+    ($name:ident, $pixel:ty, $coef:ty, $export:ident, $stride:literal, $last:expr $(, $depth:literal)?) => {
+        fn $name(coeff: &mut [$coef], pixels: &mut [$pixel]) {
+            let (dst, c) = (pixels.as_mut_ptr(), coeff.as_mut_ptr());
+            // SAFETY: each pointer and length are those of one slice; the call asks for nothing else.
+            let word =
+                unsafe { $export(dst, AREA, 0, $stride, SIDE, SIDE, c, AREA, $last, SIDE, SIDE, 0 $(, $depth)?) };
+            assert_eq!(word & 0xff, 0, "refused");
+        }
+    };
 }
 
-fn plain(coeff: &mut [i32], pixels: &mut [u16]) {
-    let (dst, c) = (pixels.as_mut_ptr(), coeff.as_mut_ptr());
-    // SAFETY: as above.
-    let word = unsafe { sgrifomel_inv_txfm_add(dst, AREA, 0, 64, SIDE, SIDE, c, AREA, 1, SIDE, SIDE, 0, 8) };
-    assert_eq!(word & 0xff, 0, "refused");
-}
+ours!(live, u16, i32, sgrifomel_inv_txfm_add_live, 64, LIVE_ROWS, 8);
+ours!(plain, u16, i32, sgrifomel_inv_txfm_add, 64, 1, 8);
+ours!(narrow_live, u8, i16, sgrifomel_inv_txfm_add_live_8bpc, 32, LIVE_ROWS);
+ours!(narrow_plain, u8, i16, sgrifomel_inv_txfm_add_8bpc, 32, 1);
 
 /// What is timed must be the same work: the pixels agree and all coefficients are cleared.
 fn check(from: &Batch) {
     let mut batch = Batch::new();
     batch.time(0);
-    assert!(batch.narrow_pixels != from.narrow_pixels && batch.narrow_coeff.iter().all(|&v| v == 0));
-    let wanted: Vec<u16> = batch.narrow_pixels.iter().map(|&p| p.into()).collect();
-    for which in [1, 2] {
+    let wanted = batch.left(0);
+    assert!(wanted.0 != from.pixels && wanted.1.iter().all(|&v| v == 0));
+    for which in 1..NAMES.len() {
         batch.refill(from);
         batch.time(which);
-        assert!(batch.pixels == wanted && batch.coeff.iter().all(|&v| v == 0), "{} differs", NAMES[which]);
+        assert!(batch.left(which) == wanted, "{} differs", NAMES[which]);
     }
 }
 
@@ -109,16 +123,16 @@ fn main() {
     check(&from);
 
     let mut batch = Batch::new();
-    let mut least = [Duration::MAX; 3];
+    let mut least = [Duration::MAX; NAMES.len()];
     for _ in 0..runs {
-        let mut sum = [Duration::ZERO; 3];
+        let mut sum = [Duration::ZERO; NAMES.len()];
         for _ in 0..batches {
-            for which in 0..3 {
+            for which in 0..NAMES.len() {
                 batch.refill(&from);
                 sum[which] += batch.time(which);
             }
         }
-        for which in 0..3 {
+        for which in 0..NAMES.len() {
             least[which] = least[which].min(sum[which]);
         }
     }
