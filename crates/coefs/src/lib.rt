@@ -7,7 +7,7 @@ ghost use lib.IntN.{pos};
 ghost use lib.ListN.{length, replicate, drop};
 ghost use Rattle.whole.specs.Numbers as Numbers;
 ghost use Rattle.whole.specs.Lists.{at, any, first};
-ghost use Rattle.coefs.specs.Coefs.{found, in-dead-row, Zeros, ZeroRows, Covers};
+ghost use Rattle.coefs.specs.Coefs.{found, in-dead-row, Zeros, ZeroRows, Covers, Alike, NoneOutside};
 use intops::outside;
 
 pub enum Found {
@@ -55,6 +55,16 @@ pub fn first_outside(c: &[i32], w: usize, h: usize, min: i32, max: i32) -> Found
         return search_outside(c, w, h, min, max);
     }
     Found::Nothing
+}
+
+// The first n coefficients of 16 bits are in the row range of depth 8 (E2). Each is read to know that; nothing comes of it, so the compiler leaves the loop out.
+pub fn none_outside_8bpc(c: &[i16], n: usize)
+    requires { ⌜ n ≤ length (now c) ⌝ }
+    ensures { λ _. ⌜ NoneOutside n (now (c .entry)) ⌝ }
+{
+    for i in 0..n {
+        let v = c[i];
+    }
 }
 
 // Whether a coefficient from place `from` to before `to` is not zero.
@@ -129,6 +139,17 @@ pub fn live_rows(c: &[i32], w: usize, h: usize) -> usize
     live
 }
 
+// The first n coefficients of 16 bits, in 32 (E2).
+pub fn widen(t: &mut [i32], c: &[i16], n: usize)
+    requires { ⌜ (n ≤ length (now c)) × (n ≤ length (now t)) ⌝ }
+    ensures { λ _. ⌜ Alike n (now (c .entry)) (now (t .exit)) ⌝ }
+{
+    for k in 0..n {
+        let v = c[k];
+        t[k] = v as i32;
+    }
+}
+
 // Step 7.
 pub fn clear(c: &mut [i32], n: usize)
     requires { ⌜ n ≤ length (now c) ⌝ }
@@ -136,5 +157,15 @@ pub fn clear(c: &mut [i32], n: usize)
 {
     for i in 0..n {
         c[i] = 0;
+    }
+}
+
+// The same on coefficients of 16 bits (E2).
+pub fn clear_8bpc(c: &mut [i16], n: usize)
+    requires { ⌜ n ≤ length (now c) ⌝ }
+    ensures { λ _. ⌜ now (c .exit) ≡ replicate n (pos 0) ++ drop n (now (c .entry)) ⌝ }
+{
+    for j in 0..n {
+        c[j] = 0;
     }
 }

@@ -1,15 +1,32 @@
 -- The pixel rule, place by place: each pixel of the block gets its own number, and every other pixel stays.
 use mathlib.Core.Path.{_≡_, refl, sym, ap, ap₂, _∙_}
 use mathlib.Core.Logic.{_≢_}
-use mathlib.Core.List.{List}
+use mathlib.Core.List.{List, [], _∷_}
 use Prim.Native.Nat.{ℕ, zero, suc, _+_, _≤_, _<_}
+use native.Mathlib.Nat.{le-trans}
 use native.Mathlib.Numerals.{add-one}
 use native.Mathlib.Omega.{arith}
-use lib.IntN.{ℤ}
+use lib.Dec.{lit≤}
+use lib.IntN.{ℤ, pos, natAbs}
 use lib.ListN.{getD, set, length, length-set}
 use lib.Seq.{getD-set-same, getD-set-other}
+use Rattle.whole.specs.Numbers.{round2}
 use Rattle.whole.proofs.Counts.{last-or-less}
+use Rattle.whole.proofs.Machine.{var, lit, _⊕_, _≫_, bound}
+use Rattle.itx_1d.specs.declared.Kind.{Kind}
+use Rattle.itx_1d.proofs.Manners.{split}
 use Rattle.pixels.specs.Adds.{add-pixel, add-row, add-rows}
+use Rattle.pixels.specs.Inner.{left}
+
+-- ---- one number
+
+-- rounding leaves a number small
+round-small : (v : ℤ) → natAbs v ≤ 16777216 → natAbs (round2 v 4) ≤ 16777216
+unfolding Rattle.whole.specs.Numbers.round2 Rattle.whole.specs.Numbers._>>_
+round-small v l = le-trans (bound (v ∷ []) (16777216 ∷ []) (l, tt) (var 0 ⊕ lit (pos 8) ≫ 4)) (lit≤ tt)
+
+pub left-small : (k : Kind) (v : ℤ) → natAbs v ≤ 16777216 → natAbs (left k v) ≤ 16777216
+left-small k v l = split (λ z. natAbs z ≤ 16777216) k v (round2 v 4) (λ t. l) (round-small v l)
 
 -- ---- one row
 
@@ -34,8 +51,8 @@ module _ (top : ℕ) (ps : List ℕ) (from : ℕ) where
       (getD-set-same rest (from + k) (new k) 0 (omega (arith, row-length v k)))
       (λ g. getD-set-other rest (from + k) (from + x) (new k) 0 (λ e. omega arith) ∙ row-own v k x g (omega arith))
 
-  -- one more pixel, which is still what it was: the step of every loop that adds a row
-  pub row-more : (v : ℕ → ℤ) (k q : ℕ) {now : List ℕ} {z : ℤ} → now ≡ add-row top ps from v k → z ≡ v k
+  -- one more pixel, which is still what it was
+  row-more : (v : ℕ → ℤ) (k q : ℕ) {now : List ℕ} {z : ℤ} → now ≡ add-row top ps from v k → z ≡ v k
       → q ≡ add-pixel top (getD now (from + k) 0) z → set now (from + k) q ≡ add-row top ps from v (k + 1)
   unfolding add-row
   row-more v k q {now} {z} e g f =
@@ -47,6 +64,25 @@ module _ (top : ℕ) (ps : List ℕ) (from : ℕ) where
   unfolding add-row
   row-ext v u zero e = refl
   row-ext v u (suc k) e = ap₂ (λ (s : List ℕ) (z : ℕ). set s (from + k) z) (row-ext v u k (λ x l. e x (omega arith))) (e k (omega arith))
+
+-- x of w pixels have their numbers: the invariant of every loop that adds a row
+pub record RowTo (top : ℕ) (ps : List ℕ) (from : ℕ) (v : ℕ → ℤ) (w x : ℕ) (now : List ℕ) : Type 0 where
+  pub is : now ≡ add-row top ps from v x
+  pub few : x ≤ w
+
+pub row-begun : (top : ℕ) (ps : List ℕ) (from : ℕ) (v : ℕ → ℤ) (w : ℕ) → RowTo top ps from v w 0 ps
+unfolding add-row
+row-begun top ps from v w = record { is = refl; few = omega arith }
+
+module _ {top : ℕ} {ps : List ℕ} {from : ℕ} {v : ℕ → ℤ} {w x : ℕ} {now : List ℕ} (h : RowTo top ps from v w x now) where
+  pub row-long : length now ≡ length ps
+  row-long = ap length (h .is) ∙ row-length top ps from v x
+
+  pub row-next : {q : ℕ} {z : ℤ} → x < w → z ≡ v x → q ≡ add-pixel top (getD now (from + x) 0) z → RowTo top ps from v w (x + 1) (set now (from + x) q)
+  row-next l g f = record { is = row-more top ps from v x _ (h .is) g f; few = omega arith }
+
+  pub row-done : w ≤ x → now ≡ add-row top ps from v w
+  row-done l = let all : x ≡ w = omega (arith, h .few) in h .is ∙ ap (add-row top ps from v) all
 
 -- ---- all rows
 
@@ -62,8 +98,8 @@ module _ (top : ℕ) (ps : List ℕ) (from : ℕ → ℕ) where
   pixel-kept v n zero i f = refl
   pixel-kept v n (suc k) i f = row-other top (add-rows top ps from v n k) (from k) (v k) n i (λ x l. f k x (omega arith) l) ∙ pixel-kept v n k i (λ y x l. f y x (omega arith))
 
-  -- one more row: the step of every loop that adds a block
-  pub rows-more : (v : ℕ → ℕ → ℤ) (n k : ℕ) {now after : List ℕ} {at : ℕ} → now ≡ add-rows top ps from v n k → at ≡ from k
+  -- one more row
+  rows-more : (v : ℕ → ℕ → ℤ) (n k : ℕ) {now after : List ℕ} {at : ℕ} → now ≡ add-rows top ps from v n k → at ≡ from k
       → after ≡ add-row top now at (v k) n → after ≡ add-rows top ps from v n (k + 1)
   unfolding add-rows
   rows-more v n k e g f = f ∙ (λ i. add-row top (e i) (g i) (v k) n) ∙ ap (add-rows top ps from v n) (sym (add-one k))
@@ -93,3 +129,22 @@ module _ (top : ℕ) (ps : List ℕ) (from : ℕ → ℕ) where
   rows-ext v u n (suc k) e =
       ap (λ (s : List ℕ). add-row top s (from k) (v k) n) (rows-ext v u n k (λ y x l. e y x (omega arith)))
       ∙ row-ext top (add-rows top ps from u n k) (from k) (v k) (u k) n (λ x l. e k x (omega arith) l)
+
+-- y of h rows have their numbers: the invariant of every loop that adds a block
+pub record RowsTo (top : ℕ) (ps : List ℕ) (from : ℕ → ℕ) (v : ℕ → ℕ → ℤ) (n h y : ℕ) (now : List ℕ) : Type 0 where
+  pub is : now ≡ add-rows top ps from v n y
+  pub few : y ≤ h
+
+pub rows-begun : (top : ℕ) (ps : List ℕ) (from : ℕ → ℕ) (v : ℕ → ℕ → ℤ) (n h : ℕ) → RowsTo top ps from v n h 0 ps
+unfolding add-rows
+rows-begun top ps from v n h = record { is = refl; few = omega arith }
+
+module _ {top : ℕ} {ps : List ℕ} {from : ℕ → ℕ} {v : ℕ → ℕ → ℤ} {n h y : ℕ} {now : List ℕ} (r : RowsTo top ps from v n h y now) where
+  pub rows-long : length now ≡ length ps
+  rows-long = ap length (r .is) ∙ rows-length top ps from v n y
+
+  pub rows-next : {at : ℕ} {after : List ℕ} → y < h → at ≡ from y → after ≡ add-row top now at (v y) n → RowsTo top ps from v n h (y + 1) after
+  rows-next l g f = record { is = rows-more top ps from v n y (r .is) g f; few = omega arith }
+
+  pub rows-done : h ≤ y → now ≡ add-rows top ps from v n h
+  rows-done l = let all : y ≡ h = omega (arith, r .few) in r .is ∙ ap (add-rows top ps from v n) all

@@ -1,4 +1,4 @@
--- The pixel rule in 16 bits: what is below 0 is 0 and what is above 65535 is 65535 at every step, and 65535 stands for the top.
+-- The pixel rule in 16 or in 8 bits: what is below 0 is 0 and what is above the most is the most at every step, and the most stands for the top.
 use mathlib.Core.Path.{_≡_, refl, sym, ap, _∙_}
 use mathlib.Core.Bool.{Bool, true, false}
 use Prim.Native.Nat.{ℕ, suc, _+_, _-_, _≤_, min}
@@ -23,6 +23,10 @@ capped (pos n) top = go (ltZ (pos top) (pos n)) refl
     go true e = ap natAbs (clip-high (pos n) (pos 0) (pos top) above e) ∙ omega (arith, ltb-true top n e)
     go false e = ap natAbs (clip-none (pos n) (pos 0) (pos top) above e) ∙ omega (arith, ltb-false top n e)
 
+-- a clipped number is a pixel
+pub at-most : (z : ℤ) (top : ℕ) {q : ℕ} → q ≡ natAbs (clip z (pos 0) (pos top)) → q ≤ top
+at-most z top e = omega (arith, e, capped z top)
+
 -- the positive part of a difference
 part : {z : ℤ} {a b : ℕ} → Rep z a b → pp z ≡ a - b
 part {z = pos n} h = omega (arith, h .rep)
@@ -31,35 +35,43 @@ part {z = negsuc n} h = omega (arith, h .rep)
 capped-at : {z : ℤ} {a b : ℕ} (top : ℕ) → Rep z a b → natAbs (clip z (pos 0) (pos top)) ≡ min (a - b) top
 capped-at {z} top h = capped z top ∙ ap (λ (n : ℕ). min n top) (part h)
 
--- 65535 stands for the top
-raised : (p top n rest : ℕ) → rest + top ≡ 65535 → min (p + (min n top + rest)) 65535 - rest ≡ min (p + n - (0 + 0)) top
-raised p top n rest e = omega arith
-
-lowered : (p top d rest : ℕ) → p ≤ 65535 → rest + top ≡ 65535 → min (p - min d 65535 + (0 + rest)) 65535 - rest ≡ min (p + 0 - (0 + d)) top
-lowered p top d rest l e =
-    let down : p - min d 65535 ≡ p + 0 - (0 + d) = omega arith in
-    ap (λ (k : ℕ). min (k + (0 + rest)) 65535 - rest) down ∙ capped-back (p + 0 - (0 + d))
-  where
-    capped-back : (k : ℕ) → min (k + (0 + rest)) 65535 - rest ≡ min k top
-    capped-back k = omega arith
-
--- the numbers of the code
-module _ (top : ℕ) (v : ℤ) where
-  abbrev pub down : ℕ
-  down = natAbs (clip (pos 0 -ℤ v) (pos 0) (pos 65535))
-
+-- what is taken, and what is added
+module _ (most : ℕ) (v : ℤ) where
   abbrev pub up : ℕ
-  up = natAbs (clip v (pos 0) (pos top))
+  up = natAbs (clip v (pos 0) (pos most))
 
-pub shifted : (p top : ℕ) (v : ℤ) → p ≤ 65535 → top ≤ 65535 → min (p - down top v + (up top v + (65535 - top))) 65535 - (65535 - top) ≡ add-pixel top p v
-shifted p top (pos n) p-fits top-fits =
-    let v = pos n in
-    let d : p - down top v ≡ p = ap (λ (k : ℕ). p - k) (capped-at 65535 (rep-sub (rep-self (pos 0)) (rep-self v))) ∙ omega arith in
-    (λ i. min (d i + (capped v top i + (65535 - top))) 65535 - (65535 - top)) ∙ raised p top n (65535 - top) (omega arith)
-    ∙ sym (capped-at top (rep-add (rep-self (pos p)) (rep-self v)))
-shifted p top (negsuc n) p-fits top-fits =
-    let v = negsuc n in
-    let d : down top v ≡ min (suc n) 65535 = capped-at 65535 (rep-sub (rep-self (pos 0)) (rep-self v)) ∙ omega arith in
-    let u : up top v ≡ 0 = capped v top ∙ omega arith in
-    (λ i. min (p - d i + (u i + (65535 - top))) 65535 - (65535 - top)) ∙ lowered p top (suc n) (65535 - top) p-fits (omega arith)
-    ∙ sym (capped-at top (rep-add (rep-self (pos p)) (rep-self v)))
+  abbrev pub down : ℕ
+  down = natAbs (clip (pos 0 -ℤ v) (pos 0) (pos most))
+
+module _ (most : ℕ) where
+  -- the most stands for the top
+  raised : (p top n rest : ℕ) → rest + top ≡ most → min (p + (min n top + rest)) most - rest ≡ min (p + n - (0 + 0)) top
+  raised p top n rest e = omega arith
+
+  lowered : (p top d rest : ℕ) → p ≤ most → rest + top ≡ most → min (p - min d most + (0 + rest)) most - rest ≡ min (p + 0 - (0 + d)) top
+  lowered p top d rest l e =
+      let less : p - min d most ≡ p + 0 - (0 + d) = omega arith in
+      ap (λ (k : ℕ). min (k + (0 + rest)) most - rest) less ∙ capped-back (p + 0 - (0 + d))
+    where
+      capped-back : (k : ℕ) → min (k + (0 + rest)) most - rest ≡ min k top
+      capped-back k = omega arith
+
+  pub shifted : (p top : ℕ) (v : ℤ) → p ≤ most → top ≤ most → min (p - down most v + (up top v + (most - top))) most - (most - top) ≡ add-pixel top p v
+  shifted p top (pos n) p-fits top-fits =
+      let v = pos n in
+      let d : p - down most v ≡ p = ap (λ (k : ℕ). p - k) (capped-at most (rep-sub (rep-self (pos 0)) (rep-self v))) ∙ omega arith in
+      (λ i. min (d i + (capped v top i + (most - top))) most - (most - top)) ∙ raised p top n (most - top) (omega arith)
+      ∙ sym (capped-at top (rep-add (rep-self (pos p)) (rep-self v)))
+  shifted p top (negsuc n) p-fits top-fits =
+      let v = negsuc n in
+      let d : down most v ≡ min (suc n) most = capped-at most (rep-sub (rep-self (pos 0)) (rep-self v)) ∙ omega arith in
+      let u : up top v ≡ 0 = capped v top ∙ omega arith in
+      (λ i. min (p - d i + (u i + (most - top))) most - (most - top)) ∙ lowered p top (suc n) (most - top) p-fits (omega arith)
+      ∙ sym (capped-at top (rep-add (rep-self (pos p)) (rep-self v)))
+
+  -- where the most is the top
+  pub shifted-all : (p : ℕ) (v : ℤ) → p ≤ most → min (p - down most v + up most v) most ≡ add-pixel most p v
+  shifted-all p v l = no-rest (p - down most v) (up most v) ∙ shifted p most v l (omega arith)
+    where
+      no-rest : (a b : ℕ) → min (a + b) most ≡ min (a + (b + (most - most))) most - (most - most)
+      no-rest a b = omega arith

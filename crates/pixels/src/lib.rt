@@ -38,11 +38,25 @@ fn less(p: u16, d: u16) -> u16
     if d < p { p - d } else { 0 }
 }
 
+// The same in 8 bits.
+fn less_8bpc(p: u8, d: u8) -> u8
+    ensures { λ r. ⌜ r ≡ p - d ⌝ }
+{
+    if d < p { p - d } else { 0 }
+}
+
 // p and d more, and 65535 where that is less.
 fn more(p: u16, d: u16) -> u16
     ensures { λ r. ⌜ r ≡ min (p + d) 65535 ⌝ }
 {
     if 65535 - d < p { 65535 } else { p + d }
+}
+
+// The same in 8 bits, where 255 is the most.
+fn more_8bpc(p: u8, d: u8) -> u8
+    ensures { λ r. ⌜ r ≡ min (p + d) 255 ⌝ }
+{
+    if 255 - d < p { 255 } else { p + d }
 }
 
 // The same as `add_pixel`, where many pixels get one number: all in 16 bits, and 65535 stands for the top.
@@ -58,6 +72,17 @@ fn shift_pixel(p: u16, v: i32, top: u16) -> u16
     less(q, rest)
 }
 
+// The same in 8 bits, where 255 is the top.
+fn shift_pixel_8bpc(p: u8, v: i32) -> u8
+    requires { ⌜ natAbs v ≤ 16777216 ⌝ }
+    ensures { λ r. ⌜ r ≡ add-pixel 255 p v ⌝ }
+{
+    let down = pixel(0 - v, 255) as u8;
+    let up = pixel(v, 255) as u8;
+    let q = less_8bpc(p, down);
+    more_8bpc(q, up)
+}
+
 // The w numbers of t from `start` on, rounded, added to the w pixels from `from` on.
 fn add_row(ps: &mut [u16], from: usize, t: &[i32], start: usize, columns: Kind, w: usize, top: u16)
     requires { ⌜ Inner.RowAdds from start w (now ps) (now t) ⌝ }
@@ -70,6 +95,18 @@ fn add_row(ps: &mut [u16], from: usize, t: &[i32], start: usize, columns: Kind, 
     }
 }
 
+// The same on 8-bit pixels (E2).
+fn add_row_8bpc(ps: &mut [u8], from: usize, t: &[i32], start: usize, columns: Kind, w: usize)
+    requires { ⌜ Inner.RowAdds from start w (now ps) (now t) ⌝ }
+    ensures { λ _. ⌜ now (ps .exit) ≡ add-row 255 (now (ps .entry)) from (λ x. Inner.left columns (at (now (t .entry)) (start + x))) w ⌝ }
+{
+    for x in 0..w {
+        let v = leave(columns, t[start + x]);
+        let p = ps[from + x];
+        ps[from + x] = add_pixel(p as u16, v, 255) as u8;
+    }
+}
+
 // v added to the w pixels from `from` on.
 fn shift_pixels(ps: &mut [u16], from: usize, v: i32, w: usize, top: u16)
     requires { ⌜ (natAbs v ≤ 16777216) × (from + w ≤ length (now ps)) ⌝ }
@@ -78,6 +115,17 @@ fn shift_pixels(ps: &mut [u16], from: usize, v: i32, w: usize, top: u16)
     for x in 0..w {
         let p = ps[from + x];
         ps[from + x] = shift_pixel(p, v, top);
+    }
+}
+
+// The same on 8-bit pixels (E2).
+fn shift_pixels_8bpc(ps: &mut [u8], from: usize, v: i32, w: usize)
+    requires { ⌜ (natAbs v ≤ 16777216) × (from + w ≤ length (now ps)) ⌝ }
+    ensures { λ _. ⌜ now (ps .exit) ≡ add-row 255 (now (ps .entry)) from (λ x. v) w ⌝ }
+{
+    for x in 0..w {
+        let p = ps[from + x];
+        ps[from + x] = shift_pixel_8bpc(p, v);
     }
 }
 
@@ -107,6 +155,20 @@ pub fn shift_block(ps: &mut [u16], spot: Spot, v: i32, top: u16)
     }
 }
 
+// The same on 8-bit pixels (E2).
+pub fn shift_block_8bpc(ps: &mut [u8], spot: Spot, v: i32)
+    requires { ⌜ Inner.Shifting spot v (now ps) ⌝ }
+    ensures { λ _. ⌜ now (ps .exit) ≡ add-rows 255 (now (ps .entry)) (begins spot) (λ y x. v) (spot .columns) (spot .rows) ⌝ }
+{
+    let offset = spot.offset;
+    let stride = spot.stride;
+    let n = spot.columns;
+    for y in 0..spot.rows {
+        let first = stride.start(offset, y as u16);
+        shift_pixels_8bpc(&mut *ps, first as usize, v, n);
+    }
+}
+
 // Row y's numbers stand in t from y·step on.
 pub fn add_block(ps: &mut [u16], spot: Spot, t: &[i32], step: usize, columns: Kind, top: u16)
     requires { ⌜ Inner.Adding spot step (now ps) (now t) ⌝ }
@@ -121,7 +183,21 @@ pub fn add_block(ps: &mut [u16], spot: Spot, t: &[i32], step: usize, columns: Ki
     }
 }
 
-// The same for blocks four wide. Those that are seen in full are apart, whose rows LLVM adds without a test.
+// The same on 8-bit pixels (E2).
+pub fn add_block_8bpc(ps: &mut [u8], spot: Spot, t: &[i32], step: usize, columns: Kind)
+    requires { ⌜ Inner.Adding spot step (now ps) (now t) ⌝ }
+    ensures { λ _. ⌜ now (ps .exit) ≡ add-rows 255 (now (ps .entry)) (begins spot) (λ y x. Inner.left columns (at (now (t .entry)) (y * step + x))) (spot .columns) (spot .rows) ⌝ }
+{
+    let offset = spot.offset;
+    let stride = spot.stride;
+    let n = spot.columns;
+    for y in 0..spot.rows {
+        let from = stride.start(offset, y as u16);
+        add_row_8bpc(&mut *ps, from as usize, t, y * step, columns, n);
+    }
+}
+
+// As `add_block`, for blocks four wide. Those that are seen in full are apart, whose rows LLVM adds without a test.
 pub fn add_four(ps: &mut [u16], spot: Spot, t: &[i32], step: usize, columns: Kind, top: u16)
     requires { ⌜ Inner.Adding spot step (now ps) (now t) ⌝ }
     ensures { λ _. ⌜ now (ps .exit) ≡ add-rows top (now (ps .entry)) (begins spot) (λ y x. Inner.left columns (at (now (t .entry)) (y * step + x))) (spot .columns) (spot .rows) ⌝ }

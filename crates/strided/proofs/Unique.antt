@@ -1,4 +1,4 @@
--- No second answer meets the contract of in_pixels, of rows, of spot, of row or of row_mut.
+-- No second answer meets the contract of in_pixels, of rows, of spot, or of a row lookup at either width.
 use mathlib.Core.Path.{_≡_, refl, sym, _∙_}
 use mathlib.Core.Bool.{cond}
 use mathlib.Core.List.{List}
@@ -55,6 +55,6 @@ spot-back-is RowOutside = refl
 pub one-spot : (k : Width) (size w h : ℕ) (v : View) (r r′ : SpotCheck) → spot-check r ≡ spotted k size w h v → spot-check r′ ≡ spotted k size w h v → r ≡ r′
 one-spot k size w h v r r′ = one-answer spot-check spot-back spot-back-is
 
--- what row and row_mut hand back points to one place and holds one list
+-- what a row lookup hands back points to one place and holds one list
 pub one-row : (k : Width) (s r r′ : RefT (List ℕ)) (p : Part) → IsPart k s r p → IsPart k s r′ p → (r .ptr .0 ≡ r′ .ptr .0) × (r .ptr .1 ≡ r′ .ptr .1) × (r .now ≡ r′ .now)
 one-row k s r r′ p a a′ = (a .slice ∙ sym (a′ .slice), a .at ∙ sym (a′ .at), a .elements ∙ sym (a′ .elements))

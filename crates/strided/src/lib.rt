@@ -219,12 +219,32 @@ pub fn row<'a>(dst: &'a [u16], view: View, w: usize, h: usize, y: usize) -> &'a 
     &dst[from..end]
 }
 
-// The same of a plane that can be written.
+// The same of 8-bit pixels (E2).
+pub fn row_8bpc<'a>(dst: &'a [u8], view: View, w: usize, h: usize, y: usize) -> &'a [u8]
+    ensures { λ r. ⌜ IsPart Narrow (dst .entry) r (row-part Narrow (length (now (dst .entry))) view w h y) ⌝ }
+{
+    let part = lookup(Width::Narrow, dst.len(), view, w, h, y);
+    let from = part.from;
+    let end = from + part.size;
+    &dst[from..end]
+}
+
+// As `row`, of a plane that can be written.
 pub fn row_mut<'a>(dst: &'a mut [u16], view: View, w: usize, h: usize, y: usize) -> &'a mut [u16]
     ensures { λ r. ⌜ IsPart Wide (dst .entry) r (row-part Wide (length (now (dst .entry))) view w h y) ⌝ }
 {
     let part = lookup(Width::Wide, dst.len(), view, w, h, y);
     let from = part.from;
     let end = from + part.size;
+    &mut dst[from..end]
+}
+
+// The same of 8-bit pixels (E2).
+pub fn row_mut_8bpc<'a>(dst: &'a mut [u8], view: View, w: usize, h: usize, y: usize) -> &'a mut [u8]
+    ensures { λ r. ⌜ IsPart Narrow (dst .entry) r (row-part Narrow (length (now (dst .entry))) view w h y) ⌝ }
+{
+    let found = lookup(Width::Narrow, dst.len(), view, w, h, y);
+    let from = found.from;
+    let end = from + found.size;
     &mut dst[from..end]
 }

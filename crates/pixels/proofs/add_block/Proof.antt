@@ -1,10 +1,10 @@
 -- `pixels::add_block` meets its contract.
-use mathlib.Core.Path.{_≡_, refl, ap, _∙_}
+use mathlib.Core.Path.{_≡_, ap, _∙_}
 use Prim.Native.Nat.{ℕ, _+_, _-_, _*_, _≤_}
 use native.Mathlib.Nat.{mul-le-mul}
 use native.Mathlib.Omega.{arith}
 use borrow.Author.Needs.{needs}
-use lib.IntN.{ℤ, natAbs}
+use lib.IntN.{natAbs}
 use lib.ListN.{length}
 use mir.Syntax.{w64}
 use mir.ValLaws.{toZ-ofZ}
@@ -14,25 +14,17 @@ use Rattle.strided.specs.declared.Spot.{Spot}
 use Rattle.strided.specs.Planes.{starts, begins}
 use Rattle.strided.proofs.Casts.{read, to-usize}
 use Rattle.strided.proofs.Rows.{row-here}
-use Rattle.pixels.specs.Adds.{add-rows}
 use Rattle.pixels.specs.Inner.{left}
-use Rattle.pixels.proofs.Pixels.{rows-length, rows-more}
+use Rattle.pixels.proofs.Pixels.{RowsTo, rows-begun, rows-long, rows-next, rows-done}
 use Rattle.pixels.proofs.add_block.Statement.{statement}
 use Rattle.pixels.proofs.add_block.Tie as tie
 
 abbrev Inv-loop : tie.InvT-loop
 Inv-loop ps₀ t step columns top offset stride n y₀ h ps y =
-    (ps ≡ add-rows top ps₀ (λ y. natAbs (starts offset (stride .0) y)) (λ i x. left columns (at t (i * step + x))) n y) × (y ≤ h)
+    RowsTo top ps₀ (λ y. natAbs (starts offset (stride .0) y)) (λ i x. left columns (at t (i * step + x))) n h y ps
 
 abbrev μ-loop : tie.MeasureT-loop
 μ-loop ps₀ t step columns top offset stride n y₀ h ps y = h - y
-
--- what is added in row y, column x
-abbrev added : tie.Start Inv-loop μ-loop → ℕ → ℕ → ℤ
-added s y x = left (s .args .columns) (at (s .args .t .now) (y * s .args .step + x))
-
-as-long : (c : tie.At-loop Inv-loop μ-loop) → length (c .loop .ps) ≡ length (c .before .before .before .args .ps .now)
-as-long c = ap length (c .loop .inv .0) ∙ rows-length _ _ _ _ _ (c .loop .y)
 
 module _ (c : tie.In-loop Inv-loop μ-loop) where
   abbrev s : tie.Start Inv-loop μ-loop
@@ -58,32 +50,16 @@ add-row-requires : tie.Need-add-row-requires Inv-loop μ-loop
 add-row-requires c κs =
     let i = c .before .before in
     record {
-      pixels = omega (arith, ap natAbs (from-is (c .before)), here i .1, as-long (i .before));
+      pixels = omega (arith, ap natAbs (from-is (c .before)), here i .1, rows-long (i .before .loop .inv));
       numbers = s i .pre .numbers (row i) (i .loop-test .taken);
     }
-
-loop-holds : tie.Need-loop-holds Inv-loop μ-loop
-unfolding add-rows
-loop-holds c = (refl, omega arith)
 
 loop-again : tie.Need-loop-again Inv-loop μ-loop
 loop-again c =
     let r = c .before .before in
     let f = r .before .before in
     let i = f .before in
-    let a = s i .args in
-    let l = i .before .loop in (
-      rows-more (a .top) (a .ps .now) (begins (a .spot)) (added (s i)) (a .spot .columns) (l .y) (l .inv .0)
-          (ap natAbs (from-is f)) (r .add-row .ensures),
-      omega (arith, i .loop-test .taken),
-    )
-
-returns : tie.Need-returns Inv-loop μ-loop
-returns c =
-    let b = c .before .before .before .before in
-    let l = c .before .loop in
-    l .inv .0 ∙ ap (add-rows (b .args .top) (b .args .ps .now) (begins (b .args .spot)) (added b) (b .args .spot .columns))
-    (omega (arith, l .inv .1, c .loop-test .left))
+    rows-next (i .before .loop .inv) (i .loop-test .taken) (ap natAbs (from-is f)) (r .add-row .ensures)
 
 pub add-block-spec : {M : Type 1} → statement M
 add-block-spec =
@@ -91,7 +67,7 @@ add-block-spec =
     (tie.spec
     Inv-loop
     μ-loop
-    loop-holds
+    (λ c. rows-begun _ _ _ _ _ _)
     (λ c. omega (arith, row-small c))
     (λ c κs. search needs)
     (λ c. let i = c .before .before in to-usize _ _ (from-is (c .before)) (here i .0) (omega (arith, here i .1, s i .good .0 .0)))
@@ -100,5 +76,5 @@ add-block-spec =
     (λ c. omega (arith, row-small (c .before .before .before .before .before)))
     (λ c. omega arith)
     loop-again
-    (λ c. as-long (c .before))
-    returns)
+    (λ c. rows-long (c .before .loop .inv))
+    (λ c. rows-done (c .before .loop .inv) (c .loop-test .left)))

@@ -1,36 +1,20 @@
 -- `pixels::add_row` meets its contract.
-use mathlib.Core.Path.{_≡_, refl, ap, _∙_, subst⁻¹}
-use mathlib.Core.List.{[], _∷_}
+use mathlib.Core.Path.{_≡_, ap, _∙_, subst⁻¹}
 use Prim.Native.Nat.{ℕ, _+_, _-_, _≤_, _<_}
-use native.Mathlib.Nat.{le-trans}
 use native.Mathlib.Omega.{arith}
-use lib.Dec.{lit≤}
-use lib.IntN.{ℤ, pos, natAbs}
+use lib.IntN.{ℤ, natAbs}
 use lib.ListN.{length}
 use mir.Syntax.{w32}
 use mir.Val.{toZ, ofZ}
 use mir.ValLaws.{toZ-ofZ}
-use Rattle.whole.specs.Numbers.{round2}
 use Rattle.whole.specs.Lists.{at}
-use Rattle.whole.proofs.Machine.{var, lit, _⊕_, _≫_, bound}
-use Rattle.itx_1d.specs.declared.Kind.{Kind}
-use Rattle.itx_1d.proofs.Manners.{split}
-use Rattle.pixels.specs.Adds.{add-row}
 use Rattle.pixels.specs.Inner.{left}
-use Rattle.pixels.proofs.Pixels.{row-length, row-more}
+use Rattle.pixels.proofs.Pixels.{left-small, RowTo, row-begun, row-long, row-next, row-done}
 use Rattle.pixels.proofs.add_row.Statement.{statement}
 use Rattle.pixels.proofs.add_row.Tie as tie
 
--- rounding leaves a number small
-round-small : (v : ℤ) → natAbs v ≤ 16777216 → natAbs (round2 v 4) ≤ 16777216
-unfolding Rattle.whole.specs.Numbers.round2 Rattle.whole.specs.Numbers._>>_
-round-small v l = le-trans (bound (v ∷ []) (16777216 ∷ []) (l, tt) (var 0 ⊕ lit (pos 8) ≫ 4)) (lit≤ tt)
-
-left-small : (k : Kind) (v : ℤ) → natAbs v ≤ 16777216 → natAbs (left k v) ≤ 16777216
-left-small k v l = split (λ z. natAbs z ≤ 16777216) k v (round2 v 4) (λ t. l) (round-small v l)
-
 abbrev Inv-loop : tie.InvT-loop
-Inv-loop ps₀ from t start columns w top x₀ ps x = (ps ≡ add-row top ps₀ from (λ i. left columns (at t (start + i))) x) × (x ≤ w)
+Inv-loop ps₀ from t start columns w top x₀ ps x = RowTo top ps₀ from (λ i. left columns (at t (start + i))) w x ps
 
 abbrev μ-loop : tie.MeasureT-loop
 μ-loop ps₀ from t start columns w top x₀ ps x = w - x
@@ -38,9 +22,6 @@ abbrev μ-loop : tie.MeasureT-loop
 -- what is added in column x
 abbrev added : tie.Start Inv-loop μ-loop → ℕ → ℤ
 added s x = left (s .args .columns) (at (s .args .t .now) (s .args .start + x))
-
-as-long : (c : tie.At-loop Inv-loop μ-loop) → length (c .loop .ps) ≡ length (c .before .before .args .ps .now)
-as-long c = ap length (c .loop .inv .0) ∙ row-length _ _ _ _ (c .loop .x)
 
 module _ (c : tie.In-loop Inv-loop μ-loop) where
   abbrev s : tie.Start Inv-loop μ-loop
@@ -60,7 +41,7 @@ module _ (c : tie.In-loop Inv-loop μ-loop) where
   here = omega (arith, c .loop-test .taken, s .pre .pixels)
 
   here-still : s .args .from + column < length (c .before .loop .ps)
-  here-still = omega (arith, here, as-long (c .before))
+  here-still = omega (arith, here, row-long (c .before .loop .inv))
 
 -- the number, and what is added, as they are held
 number : (c : tie.After-leave-arg Inv-loop μ-loop) → let i = c .before in let v = at (s i .args .t .now) (s i .args .start + column i) in toZ w32 (ofZ w32 v) ≡ v
@@ -74,24 +55,10 @@ add-pixel-requires c κs =
     let i = c .before .before .before in
     subst⁻¹ (λ (z : ℤ). natAbs z ≤ 16777216) (value (c .before)) (left-small (s i .args .columns) (at (s i .args .t .now) (s i .args .start + column i)) (small i))
 
-loop-holds : tie.Need-loop-holds Inv-loop μ-loop
-unfolding add-row
-loop-holds c = (refl, omega arith)
-
 loop-again : tie.Need-loop-again Inv-loop μ-loop
 loop-again c =
     let i = c .before .before .before .before in
-    let a = s i .args in
-    let l = i .before .loop in (
-      row-more (a .top) (a .ps .now) (a .from) (added (s i)) (l .x) _ (l .inv .0) (value (c .before .before)) (c .add-pixel .ensures),
-      omega (arith, i .loop-test .taken),
-    )
-
-returns : tie.Need-returns Inv-loop μ-loop
-returns c =
-    let b = c .before .before .before in
-    let l = c .before .loop in
-    l .inv .0 ∙ ap (add-row (b .args .top) (b .args .ps .now) (b .args .from) (added b)) (omega (arith, l .inv .1, c .loop-test .left))
+    row-next (i .before .loop .inv) (i .loop-test .taken) (value (c .before .before)) (c .add-pixel .ensures)
 
 pub add-row-spec : {M : Type 1} → statement M
 add-row-spec =
@@ -99,7 +66,7 @@ add-row-spec =
     (tie.spec
     Inv-loop
     μ-loop
-    loop-holds
+    (λ c. row-begun _ _ _ _ _)
     (λ c. omega (arith, there c, s c .good .1 .1 .0 .0))
     (λ c. omega (arith, there c, s c .good .1 .1 .0 .1))
     (λ c. there c)
@@ -114,5 +81,5 @@ add-row-spec =
     (λ c. let i = c .before .before .before .before in omega (arith, i .loop-test .taken, s i .fits .w))
     (λ c. omega arith)
     loop-again
-    (λ c. as-long (c .before))
-    returns)
+    (λ c. row-long (c .before .loop .inv))
+    (λ c. row-done (c .before .loop .inv) (c .loop-test .left)))

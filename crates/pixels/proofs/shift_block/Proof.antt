@@ -1,5 +1,5 @@
 -- `pixels::shift_block` meets its contract.
-use mathlib.Core.Path.{_≡_, refl, ap, _∙_, subst⁻¹}
+use mathlib.Core.Path.{_≡_, ap, _∙_, subst⁻¹}
 use Prim.Native.Nat.{ℕ, _+_, _-_, _≤_}
 use native.Mathlib.Omega.{arith}
 use borrow.Author.Needs.{needs}
@@ -14,19 +14,16 @@ use Rattle.strided.specs.Planes.{starts, begins}
 use Rattle.strided.proofs.Casts.{read, to-usize}
 use Rattle.strided.proofs.Rows.{row-here}
 use Rattle.pixels.specs.Adds.{add-rows}
-use Rattle.pixels.proofs.Pixels.{rows-length, rows-more}
+use Rattle.pixels.proofs.Pixels.{RowsTo, rows-begun, rows-long, rows-next, rows-done}
 use Rattle.pixels.proofs.shift_block.Statement.{statement}
 use Rattle.pixels.proofs.shift_block.Tie as tie
 
 abbrev Inv-loop : tie.InvT-loop
 Inv-loop ps₀ v top offset stride n y₀ h ps y =
-    (ps ≡ add-rows top ps₀ (λ y. natAbs (starts offset (stride .0) y)) (λ i x. toZ w32 v) n y) × (y ≤ h)
+    RowsTo top ps₀ (λ y. natAbs (starts offset (stride .0) y)) (λ i x. toZ w32 v) n h y ps
 
 abbrev μ-loop : tie.MeasureT-loop
 μ-loop ps₀ v top offset stride n y₀ h ps y = h - y
-
-as-long : (c : tie.At-loop Inv-loop μ-loop) → length (c .loop .ps) ≡ length (c .before .before .before .args .ps .now)
-as-long c = ap length (c .loop .inv .0) ∙ rows-length _ _ _ _ _ (c .loop .y)
 
 module _ (c : tie.In-loop Inv-loop μ-loop) where
   abbrev s : tie.Start Inv-loop μ-loop
@@ -56,32 +53,21 @@ shift-row-requires : tie.Need-shift-row-requires Inv-loop μ-loop
 shift-row-requires c κs =
     let i = c .before .before in (
       subst⁻¹ (λ (z : ℤ). natAbs z ≤ 16777216) (held (s i)) (s i .pre .small),
-      omega (arith, ap natAbs (from-is (c .before)), here i .1, as-long (i .before)),
+      omega (arith, ap natAbs (from-is (c .before)), here i .1, rows-long (i .before .loop .inv)),
     )
-
-loop-holds : tie.Need-loop-holds Inv-loop μ-loop
-unfolding add-rows
-loop-holds c = (refl, omega arith)
 
 loop-again : tie.Need-loop-again Inv-loop μ-loop
 loop-again c =
     let r = c .before .before in
     let f = r .before .before in
     let i = f .before in
-    let a = s i .args in
-    let l = i .before .loop in (
-      rows-more (a .top) (a .ps .now) (begins (a .spot)) (λ y x. toZ w32 (ofZ w32 (a .v))) (a .spot .columns) (l .y) (l .inv .0)
-          (ap natAbs (from-is f)) (r .shift-row .ensures),
-      omega (arith, i .loop-test .taken),
-    )
+    rows-next (i .before .loop .inv) (i .loop-test .taken) (ap natAbs (from-is f)) (r .shift-row .ensures)
 
 returns : tie.Need-returns Inv-loop μ-loop
 returns c =
     let b = c .before .before .before .before in
     let a = b .args in
-    let l = c .before .loop in
-    let all : l .y ≡ a .spot .rows = omega (arith, l .inv .1, c .loop-test .left) in
-    l .inv .0 ∙ (λ k. add-rows (a .top) (a .ps .now) (begins (a .spot)) (λ y x. held b k) (a .spot .columns) (all k))
+    rows-done (c .before .loop .inv) (c .loop-test .left) ∙ (λ k. add-rows (a .top) (a .ps .now) (begins (a .spot)) (λ y x. held b k) (a .spot .columns) (a .spot .rows))
 
 pub shift-block-spec : {M : Type 1} → statement M
 shift-block-spec =
@@ -89,7 +75,7 @@ shift-block-spec =
     (tie.spec
     Inv-loop
     μ-loop
-    loop-holds
+    (λ c. rows-begun _ _ _ _ _ _)
     (λ c. omega (arith, row-small c))
     (λ c κs. search needs)
     (λ c. let i = c .before .before in to-usize _ _ (from-is (c .before)) (here i .0) (omega (arith, here i .1, s i .good .0 .0)))
@@ -97,5 +83,5 @@ shift-block-spec =
     (λ c. omega (arith, row-small (c .before .before .before .before .before)))
     (λ c. omega arith)
     loop-again
-    (λ c. as-long (c .before))
+    (λ c. rows-long (c .before .loop .inv))
     returns)

@@ -25,7 +25,7 @@ module _ (s : tie.Start) where
   bounded = (s .pre, tt)
 
 -- what is taken, and what is added, as they are held
-down-is : (c : tie.After-pixel) → c .pixel .result ≡ down (c .before .args .top) (c .before .args .v)
+down-is : (c : tie.After-pixel) → c .pixel .result ≡ down 65535 (c .before .args .v)
 down-is c = let s = c .before in c .pixel .ensures ∙ ap (λ (z : ℤ). natAbs (clip z (pos 0) (pos 65535))) (reads (numbers s) bounds (bounded s) (lit (pos 0) ⊝ var 0) w32 tt)
 
 up-is : (c : tie.After-pixel2) → let s = c .before .before in c .pixel2 .result ≡ up (s .args .top) (s .args .v)
@@ -39,7 +39,7 @@ returns c =
     let top = s .args .top in
     let q = l .less .ensures ∙ ap (λ (k : ℕ). s .args .p - k) (down-is (l .before .before)) in
     let r = m .more .ensures ∙ (λ i. min (q i + (up-is (l .before) i + (65535 - top))) 65535) in
-    c .less2 .ensures ∙ ap (λ (k : ℕ). k - (65535 - top)) r ∙ shifted (s .args .p) top (s .args .v) (omega (arith, s .fits .p .fits)) (omega (arith, s .fits .top .fits))
+    c .less2 .ensures ∙ ap (λ (k : ℕ). k - (65535 - top)) r ∙ shifted 65535 (s .args .p) top (s .args .v) (omega (arith, s .fits .p .fits)) (omega (arith, s .fits .top .fits))
 
 pub shift-pixel-spec : {M : Type 1} → statement M
 shift-pixel-spec =

@@ -1,25 +1,22 @@
 -- `pixels::shift_pixels` meets its contract.
-use mathlib.Core.Path.{_≡_, refl, ap, _∙_, subst⁻¹}
+use mathlib.Core.Path.{refl, _∙_, subst⁻¹}
 use Prim.Native.Nat.{_+_, _-_, _≤_, _<_}
 use native.Mathlib.Omega.{arith}
 use lib.IntN.{ℤ, natAbs}
 use lib.ListN.{length}
 use mir.Syntax.{w32}
-use mir.Val.{toZ, ofZ}
+use mir.Val.{toZ}
 use mir.ValLaws.{toZ-ofZ}
 use Rattle.pixels.specs.Adds.{add-row}
-use Rattle.pixels.proofs.Pixels.{row-length, row-more}
+use Rattle.pixels.proofs.Pixels.{RowTo, row-begun, row-long, row-next, row-done}
 use Rattle.pixels.proofs.shift_pixels.Statement.{statement}
 use Rattle.pixels.proofs.shift_pixels.Tie as tie
 
 abbrev Inv-loop : tie.InvT-loop
-Inv-loop ps₀ from v w top x₀ ps x = (ps ≡ add-row top ps₀ from (λ i. toZ w32 v) x) × (x ≤ w)
+Inv-loop ps₀ from v w top x₀ ps x = RowTo top ps₀ from (λ i. toZ w32 v) w x ps
 
 abbrev μ-loop : tie.MeasureT-loop
 μ-loop ps₀ from v w top x₀ ps x = w - x
-
-as-long : (c : tie.At-loop Inv-loop μ-loop) → length (c .loop .ps) ≡ length (c .before .before .args .ps .now)
-as-long c = ap length (c .loop .inv .0) ∙ row-length _ _ _ _ (c .loop .x)
 
 module _ (c : tie.In-loop Inv-loop μ-loop) where
   abbrev s : tie.Start Inv-loop μ-loop
@@ -30,28 +27,16 @@ module _ (c : tie.In-loop Inv-loop μ-loop) where
   here = omega (arith, c .loop-test .taken, s .pre .1)
 
   here-still : s .args .from + c .before .loop .x < length (c .before .loop .ps)
-  here-still = omega (arith, here, as-long (c .before))
-
-loop-holds : tie.Need-loop-holds Inv-loop μ-loop
-unfolding add-row
-loop-holds c = (refl, omega arith)
+  here-still = omega (arith, here, row-long (c .before .loop .inv))
 
 loop-again : tie.Need-loop-again Inv-loop μ-loop
-loop-again c =
-    let i = c .before .before in
-    let a = s i .args in
-    let l = i .before .loop in (
-      row-more (a .top) (a .ps .now) (a .from) (λ x. toZ w32 (ofZ w32 (a .v))) (l .x) _ (l .inv .0) refl (c .shift-pixel .ensures),
-      omega (arith, i .loop-test .taken),
-    )
+loop-again c = let i = c .before .before in row-next (i .before .loop .inv) (i .loop-test .taken) refl (c .shift-pixel .ensures)
 
 returns : tie.Need-returns Inv-loop μ-loop
 returns c =
     let b = c .before .before .before in
-    let l = c .before .loop in
-    let all : l .x ≡ b .args .w = omega (arith, l .inv .1, c .loop-test .left) in
     let v = toZ-ofZ w32 (b .args .v) (b .fits .v) in
-    l .inv .0 ∙ (λ k. add-row (b .args .top) (b .args .ps .now) (b .args .from) (λ x. v k) (all k))
+    row-done (c .before .loop .inv) (c .loop-test .left) ∙ (λ k. add-row (b .args .top) (b .args .ps .now) (b .args .from) (λ x. v k) (b .args .w))
 
 pub shift-pixels-spec : {M : Type 1} → statement M
 shift-pixels-spec =
@@ -59,7 +44,7 @@ shift-pixels-spec =
     (tie.spec
     Inv-loop
     μ-loop
-    loop-holds
+    (λ c. row-begun _ _ _ _ _)
     (λ c. omega (arith, here c, s c .good .0 .0))
     (λ c. omega (arith, here c, s c .good .0 .1))
     (λ c. here-still (c .before))
@@ -70,5 +55,5 @@ shift-pixels-spec =
     (λ c. let i = c .before .before in omega (arith, i .loop-test .taken, s i .fits .w))
     (λ c. omega arith)
     loop-again
-    (λ c. as-long (c .before))
+    (λ c. row-long (c .before .loop .inv))
     returns)
