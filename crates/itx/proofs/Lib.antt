@@ -16,3 +16,4 @@ pub mod Accepted
 pub mod Unique
 pub mod Second
 pub mod Widths
+pub mod Copies

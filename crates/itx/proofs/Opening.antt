@@ -16,10 +16,11 @@ use native.Mathlib.Omega.{arith}
 use Rattle.whole.specs.Checks.{Check, accept, then, unless-at, Line, judged}
 use Rattle.bitdepth.specs.declared.Depth.{Depth}
 use Rattle.levels.specs.declared.Plan.{Plan}
+use Rattle.strided.specs.declared.Spot.{Spot}
 use Rattle.itx.specs.declared.Refusal.{Refusal}
 use Rattle.itx.specs.declared.Verdict.{Verdict}
 use Rattle.itx.specs.declared.Verdict.the-variants.{Go, At, Stop}
-use Rattle.itx.specs.Answers.{verdict-of, Asked, Handed}
+use Rattle.itx.specs.Answers.{verdict-of, Asked, Placed, Enough, Handed}
 use Rattle.itx.proofs.Verdict.{the-type}
 
 -- the next check decides
@@ -55,3 +56,9 @@ pub handed-on : (F : Verdict → Type 0) (before after : Verdict) → ((r : Refu
 handed-on F before (Go p d) g e f = absurd e
 handed-on F before (At p d s) g e f = subst F e f
 handed-on F before (Stop r) g e f = g r
+
+-- of what knows no place nothing is asked
+pub elsewhere : (F : Plan → Depth → Spot → Type 0) (n : ℕ) (v : Verdict) → OneOf (0 ∷ 2 ∷ []) (tagOf the-type v) → Enough n v → Placed F v
+elsewhere F n (Go p d) h a = absurd a
+elsewhere F n (At p d s) h a = absurd (miss (0 ∷ 2 ∷ []) 1 tt h)
+elsewhere F n (Stop r) h a = tt

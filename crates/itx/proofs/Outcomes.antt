@@ -1,5 +1,5 @@
 -- What an accepted call answers and leaves, place by place; a refusal leaves pixels and coefficients; and no second outcome meets a contract that says all three parts.
-use mathlib.Core.Path.{_≡_, refl, sym, ap, _∙_}
+use mathlib.Core.Path.{_≡_, refl, sym, ap, _∙_, subst}
 use mathlib.Core.Logic.{_≢_}
 use mathlib.Core.Bool.{Bool, true, false, cond}
 use mathlib.Core.List.{List, [], _∷_, _++_}
@@ -109,3 +109,6 @@ module _ (call : Call) (b : Block) where
 
 pub one-outcome : {o : Outcome} {a a′ : Answer} {ps ps′ : List ℕ} {cs cs′ : List ℤ} → Meets o a ps cs → Meets o a′ ps′ cs′ → (a ≡ a′) × (ps ≡ ps′) × (cs ≡ cs′)
 one-outcome m n = (m .answer-is ∙ sym (n .answer-is), m .pixels-are ∙ sym (n .pixels-are), m .coefs-are ∙ sym (n .coefs-are))
+
+pub met : {o o′ : Outcome} {a : Answer} {ps : List ℕ} {cs : List ℤ} → o ≡ o′ → Meets o a ps cs → Meets o′ a ps cs
+met {a = a} {ps = ps} {cs = cs} = subst (λ (o : Outcome). Meets o a ps cs)

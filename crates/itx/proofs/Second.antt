@@ -1,5 +1,5 @@
 -- The second engine (E8): what its calls leave, and that it is what the first engine's leave where the mark is no.
-use mathlib.Core.Path.{_≡_, refl, sym, ap, _∙_, subst, subst⁻¹}
+use mathlib.Core.Path.{_≡_, refl, sym, ap, _∙_, subst⁻¹}
 use mathlib.Core.Bool.{Bool, true, false, cond, not, _||_}
 use mathlib.Core.List.{List}
 use Prim.Native.Nat.{ℕ}
@@ -21,6 +21,7 @@ use Rattle.itx.specs.Answers.{left, Allowed, adst-planned}
 use Rattle.itx.specs.Av1.{av1-way}
 use Rattle.itx.specs.Calls.{Block, Call, Outcome, Meets, checked, verdict, spec-verdict, with-adst, short, live-rows, by-shortcut, outcome-of, outcome}
 use Rattle.itx.specs.Spec.{spec-outcome}
+use Rattle.itx.proofs.Outcomes.{met}
 use Rattle.itx.proofs.Av1Same.{enter-av1, between-av1, unmarked-av1}
 
 -- ---- what an engine is asked for
@@ -69,19 +70,16 @@ module _ (call : Call) (b : Block) where
   module _ {answer : Answer} {ps : List ℕ} {cs : List ℤ} where
     pub first-meets : {asked : Call} → asked ≡ call → Meets (left First asked b) answer ps cs → Meets (outcome call b) answer ps cs
     unfolding outcome
-    first-meets e = subst (λ (k : Call). Meets (left First k b) answer ps cs) e
-
-    as-spec : {o : Outcome} → o ≡ spec-outcome call b → Meets o answer ps cs → Meets (spec-outcome call b) answer ps cs
-    as-spec e = subst (λ (o : Outcome). Meets o answer ps cs) e
+    first-meets e = met (ap (λ (k : Call). left First k b) e)
 
     pub spec-meets : {asked : Call} → asked ≡ call → adst-planned planned ≡ false → Meets (left Spec asked b) answer ps cs → Meets (spec-outcome call b) answer ps cs
     unfolding spec-outcome
     spec-meets e h m =
-        as-spec (ap (λ (k : Call). left Spec k b) e ∙ (λ i. outcome-of (λ p d. way-is p d i) call b (checked call b (sym (judged planned h) i)))) m
+        met (ap (λ (k : Call). left Spec k b) e ∙ (λ i. outcome-of (λ p d. way-is p d i) call b (checked call b (sym (judged planned h) i)))) m
 
   pub spec-refused : adst-planned planned ≡ true → Meets (spec-outcome call b) (refusal 2 0) (b .plane .pixels) (b .coefs)
   unfolding spec-outcome
-  spec-refused h = as-spec (ap by-spec (sym (barred planned h))) (record { answer-is = refl; pixels-are = refl; coefs-are = refl })
+  spec-refused h = met (ap by-spec (sym (barred planned h))) (record { answer-is = refl; pixels-are = refl; coefs-are = refl })
 
   -- ---- E8's theorem
 

@@ -25,6 +25,14 @@ by-plan F w h type no-size no-type planned = shifted (among w h shift-0) (among 
     shifted false false true = kinds 2
     shifted false false false = no-size
 
+-- what an acceptance tells of the plan and of the depth
+pub planned-at : (k : Check Plan) (n : ℕ) (p : Plan) (d : Depth) → then k (with-depth n) ≡ accept (p, d) → (k ≡ accept p) × (depth n ≡ accept d)
+planned-at k n p d e =
+    let g = open-then k (with-depth n) (p, d) e in
+    let h = open-then (depth n) (λ d. accept (g .0, d)) (p, d) (g .2) in
+    let q = same-accept (g .0, h .0) (p, d) (h .2) in
+    (g .1 ∙ ap accept (ap (λ (a : Plan × Depth). a .0) q), h .1 ∙ ap accept (ap (λ (a : Plan × Depth). a .1) q))
+
 module _ (call : Call) (b : Block) where
   pub accepting : (p : Plan) (d : Depth) → Accepted call b p d → verdict call b ≡ accept (p, d)
   accepting p d a =
@@ -35,13 +43,11 @@ module _ (call : Call) (b : Block) where
   pub accepted-by : (p : Plan) (d : Depth) → verdict call b ≡ accept (p, d) → Accepted call b p d
   accepted-by p d e =
       let t = taken (then (plan (b .w) (b .h) (b .type)) (with-depth (b .depth))) (table call b) (p, d) e in
-      let g = open-then (plan (b .w) (b .h) (b .type)) (with-depth (b .depth)) (p, d) (t .0) in
-      let h = open-then (depth (b .depth)) (λ d. accept (g .0, d)) (p, d) (g .2) in
-      let q = same-accept (g .0, h .0) (p, d) (h .2) in
+      let g = planned-at (plan (b .w) (b .h) (b .type)) (b .depth) p d (t .0) in
       let c = t .1 in
       record {
-        planned = g .1 ∙ ap accept (ap (λ (a : Plan × Depth). a .0) q);
-        deep = h .1 ∙ ap accept (ap (λ (a : Plan × Depth). a .1) q);
+        planned = g .0;
+        deep = g .1;
         eob = when-none _ (c .0);
         rows = when-none _ (c .1 .0);
         enough = when-none _ (c .1 .1 .0);

@@ -14,12 +14,12 @@ use Rattle.strided.specs.Planes.{Plane, begins, spot-outside}
 use Rattle.strided.specs.declared.Spot.{Spot}
 use Rattle.pixels.specs.Adds.{add-rows}
 use Rattle.pixels.specs.Inner.{Looking}
-use Rattle.coefs.specs.Coefs.{Covers}
+use Rattle.coefs.specs.Coefs.{Covers, Alike}
 use Rattle.residual.specs.declared.Engine.{Engine}
 use Rattle.residual.specs.Blocks.{way-by, residual, marked, shortcut}
 use Rattle.residual.specs.Inner.{Sized, Coefs, Served}
 use Rattle.itx_1d.specs.Calls as Passes
-use Rattle.itx.specs.Calls.{Block, Call, Outcome, plain, live, with-adst, live-rows, verdict, outcome-of}
+use Rattle.itx.specs.Calls.{Block, Call, Outcome, plain, live, with-adst, short, live-rows, verdict, outcome-of}
 use Rattle.itx.specs.declared.Announced.{Announced}
 use Rattle.itx.specs.declared.Announced.the-variants.{Eob, LiveRows}
 use Rattle.itx.specs.declared.Answer.{Answer}
@@ -121,6 +121,19 @@ pub record Ready (p : Plan) (s : Spot) (ps : List ℕ) (c : List ℤ) : Type 0 w
 abbrev pub Suits : Call → Plan → List ℤ → ℕ → Type 0
 Suits (plain eob) p c r = (r ≤ p .h) × Covers (p .w) (p .h) c r
 Suits (live n) p c r = r ≡ n
+
+-- of a narrow block: t holds the coefficients as the passes read them ..
+pub record Widened (p : Plan) (c t : List ℤ) : Type 0 where
+  pub room : p .w * p .h ≤ length t
+  pub alike : Alike (p .w * p .h) c t
+
+-- .. unless the shortcut is due
+abbrev pub Copied : Call → List ℤ → List ℤ → Verdict → Type 0
+Copied call c t = Placed (λ p d s. short call p ≡ false → Widened p c t)
+
+-- there is room for them, if a plan was made
+pub record Roomy (c : Check Plan) (n : ℕ) : Type 0 where
+  pub room : (p : Plan) → c ≡ accept p → p .w * p .h ≤ n
 
 -- what they leave: pixels ps and coefficients c become ps′ and c′
 abbrev pub added : Depth → Spot → List ℕ → (ℕ → ℕ → ℤ) → List ℕ

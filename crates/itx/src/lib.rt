@@ -6,7 +6,8 @@ ghost use lib.ListN.{length};
 ghost use mathlib.Core.List.{[], _∷_};
 ghost use Rattle.strided.specs.declared.Spot.{Spot};
 ghost use Rattle.strided.specs.declared.Width.the-variants.{Wide};
-ghost use Rattle.strided.specs.Planes.{spot, lent};
+ghost use Rattle.strided.specs.Planes.{spot, lent, lent-8};
+ghost use Rattle.bitdepth.specs.declared.Depth.the-variants.{Eight};
 ghost use Rattle.whole.specs.Checks.{then, judged};
 ghost use Rattle.levels.specs.Plans as Plans;
 ghost use Rattle.itx_1d.specs.Manners.{is-adst};
@@ -15,22 +16,27 @@ ghost use Rattle.residual.specs.Blocks.{way-by};
 ghost use Rattle.itx.specs.Spec as Spec;
 ghost use Rattle.itx.specs.Calls as Calls;
 ghost use Rattle.itx.specs.Answers as Answers;
-ghost use Rattle.itx.specs.Answers.{answer-of, call-of, verdict-of, Asked, Lies, Looks, Enough, RowsIn, Handed, block, Ready, Suits, Passed, Shortened, left, Allowed, adst-planned};
+ghost use Rattle.itx.specs.Answers.{answer-of, call-of, verdict-of, Asked, Lies, Looks, Enough, RowsIn, Handed, block, Ready, Suits, Widened, Copied, Roomy, Passed, Shortened, left, Allowed, adst-planned};
 use bitdepth::Depth;
 use bitdepth::DepthCheck;
 use bitdepth::Range;
 use coefs::Found;
 use coefs::clear;
+use coefs::clear_8bpc;
 use coefs::first_outside;
 use coefs::first_stray;
 use coefs::live_rows;
+use coefs::none_outside_8bpc;
+use coefs::widen;
 use itx_1d::Kind;
 use levels::Decision;
 use levels::Plan;
 use pixels::add_block;
+use pixels::add_block_8bpc;
 use pixels::add_four;
 use pixels::first_above;
 use pixels::shift_block;
+use pixels::shift_block_8bpc;
 use residual::Engine;
 use residual::resolve;
 use residual::resolve_wht;
@@ -361,6 +367,43 @@ fn by_passes(
     mark
 }
 
+// The same on a narrow block (E2); c holds the coefficients as the passes read them.
+fn by_wht_8bpc(dst: &mut [u8], spot: Spot, coeff: &mut [i16], c: &[i32], r: usize)
+    requires { ⌜ Ready (wht-plan 0) spot (now dst) (now coeff) × (r ≤ 4) × Widened (wht-plan 0) (now coeff) (now c) ⌝ }
+    ensures { λ _. ⌜ ((shift : ℕ) → Passed Engine.First (wht-plan shift) Eight spot r (now (dst .entry)) (now (coeff .entry)) false (now (dst .exit)) (now (coeff .exit))) ⌝ }
+{
+    let mut t = [0i32; 16];
+    resolve_wht(&mut t, c, r);
+    add_block_8bpc(&mut *dst, spot, &t, 4, Kind::Wht);
+    clear_8bpc(&mut *coeff, 16);
+}
+
+fn by_passes_8bpc(
+    dst: &mut [u8],
+    spot: Spot,
+    coeff: &mut [i16],
+    c: &[i32],
+    plan: Plan,
+    r: usize,
+) -> bool
+    requires { ⌜ Ready plan spot (now dst) (now coeff) × (r ≤ plan .h) × Widened plan (now coeff) (now c) ⌝ }
+    ensures { λ m. ⌜ Passed Engine.First plan Eight spot r (now (dst .entry)) (now (coeff .entry)) m (now (dst .exit)) (now (coeff .exit)) ⌝ }
+{
+    let w = plan.w;
+    let h = plan.h;
+    let rows = plan.rows;
+    let columns = plan.columns;
+    if let Kind::Wht = rows {
+        by_wht_8bpc(dst, spot, coeff, c, r);
+        return false;
+    }
+    let mut t = [0i32; 1024];
+    let mark = resolve(Engine::First, &mut t, plan, Depth::Eight, c, r);
+    add_block_8bpc(&mut *dst, spot, &t, w, columns);
+    clear_8bpc(&mut *coeff, w * h);
+    mark
+}
+
 // The shortcut is due: DCT_DCT with eob 0.
 fn is_short(plan: Plan, announced: Announced) -> bool
     ensures { λ r. ⌜ r ≡ Calls.short (call-of announced) plan ⌝ }
@@ -426,6 +469,16 @@ fn by_shortcut(dst: &mut [u16], spot: Spot, coeff: &mut [i32], plan: Plan, depth
     coeff[0] = 0;
 }
 
+fn by_shortcut_8bpc(dst: &mut [u8], spot: Spot, coeff: &mut [i16], plan: Plan)
+    requires { ⌜ Ready plan spot (now dst) (now coeff) ⌝ }
+    ensures { λ _. ⌜ Shortened plan Eight spot (now (dst .entry)) (now (coeff .entry)) (now (dst .exit)) (now (coeff .exit)) ⌝ }
+{
+    let first = coeff[0];
+    let v = shortcut(plan, first as i32);
+    shift_block_8bpc(&mut *dst, spot, v);
+    coeff[0] = 0;
+}
+
 // Both calls, by an engine.
 fn transform(
     engine: Engine,
@@ -456,6 +509,88 @@ fn transform(
             Answer::Done(mark)
         }
     }
+}
+
+// Number 9 on a narrow block: it never applies.
+fn check_range_8bpc(before: Verdict, coeff: &[i16]) -> Verdict
+    requires { ⌜ Enough (length (now coeff)) before ⌝ }
+    ensures { λ r. ⌜ (verdict-of r ≡ then (verdict-of before) (judged (Calls.range-line (now (coeff .entry)) ∷ []))) × Handed before r ⌝ }
+{
+    let Verdict::At(plan, _, _) = before else {
+        return before;
+    };
+    none_outside_8bpc(coeff, plan.w * plan.h);
+    before
+}
+
+// Number 10 on a narrow block. For the long way c gets the coefficients at the width that the search and the passes read; the shortcut takes the first as it is.
+fn check_stray_8bpc(before: Verdict, c: &mut [i32], coeff: &[i16], announced: Announced) -> Verdict
+    requires { ⌜ Enough (length (now coeff)) before × Enough (length (now c)) before × RowsIn (call-of announced) before ⌝ }
+    ensures { λ v. ⌜ (verdict-of v ≡ then (verdict-of before) (judged (Calls.stray-line (call-of announced) (now (coeff .entry)) ∷ []))) × Handed before v × Copied (call-of announced) (now (coeff .entry)) (now (c .exit)) v ⌝ }
+{
+    let Verdict::At(plan, _, _) = before else {
+        return before;
+    };
+    if is_short(plan, announced) {
+        return before;
+    }
+    widen(&mut *c, coeff, plan.w * plan.h);
+    check_stray(before, &*c, announced)
+}
+
+// Both narrow calls, with room for the coefficients at the passes' width. Number 21 never applies: every byte is a pixel of depth 8.
+fn transform_in(
+    c: &mut [i32],
+    announced: Announced,
+    dst: &mut [u8],
+    view: View,
+    coeff: &mut [i16],
+    w: usize,
+    h: usize,
+    txtp: usize,
+) -> Answer
+    requires { ⌜ Roomy (Plans.plan w h txtp) (length (now c)) ⌝ }
+    ensures { λ r. ⌜ Calls.Meets (Calls.outcome (call-of announced) (block w h txtp 8 (now (coeff .entry)) (lent-8 (now (dst .entry)) view))) (answer-of r) (now (dst .exit)) (now (coeff .exit)) ⌝ }
+{
+    let size = dst.len();
+    let count = coeff.len();
+    let placed = check_lengths(announced, Width::Narrow, size, view, count, w, h, txtp, 8);
+    let ranged = check_range_8bpc(placed, &*coeff);
+    let checked = check_stray_8bpc(ranged, &mut *c, &*coeff, announced);
+    match checked {
+        Verdict::Stop(refusal) => Answer::Refused(refusal),
+        // Never, as in `transform`.
+        Verdict::Go(_, _) => Answer::Refused(Refusal::RowOutside),
+        Verdict::At(plan, _, spot) => {
+            if is_short(plan, announced) {
+                by_shortcut_8bpc(dst, spot, coeff, plan);
+                return Answer::Done(false);
+            }
+            let r = rows_to_pass(announced, &*c, plan);
+            let mark = by_passes_8bpc(dst, spot, coeff, &*c, plan, r);
+            Answer::Done(mark)
+        }
+    }
+}
+
+// Small blocks have a small room, since it is filled with zeros first.
+fn transform_8bpc(
+    announced: Announced,
+    dst: &mut [u8],
+    view: View,
+    coeff: &mut [i16],
+    w: usize,
+    h: usize,
+    txtp: usize,
+) -> Answer
+    ensures { λ r. ⌜ Calls.Meets (Calls.outcome (call-of announced) (block w h txtp 8 (now (coeff .entry)) (lent-8 (now (dst .entry)) view))) (answer-of r) (now (dst .exit)) (now (coeff .exit)) ⌝ }
+{
+    if (w <= 8) & (h <= 8) {
+        let mut c = [0i32; 64];
+        return transform_in(&mut c, announced, dst, view, coeff, w, h, txtp);
+    }
+    let mut c = [0i32; 1024];
+    transform_in(&mut c, announced, dst, view, coeff, w, h, txtp)
 }
 
 // The plain call.
@@ -510,6 +645,36 @@ pub fn inv_txfm_add_live(
         txtp,
         depth,
     )
+}
+
+// The plain call on eight-bit pages at their own width (E2).
+pub fn inv_txfm_add_8bpc(
+    dst: &mut [u8],
+    view: View,
+    coeff: &mut [i16],
+    eob: i32,
+    w: usize,
+    h: usize,
+    txtp: usize,
+) -> Answer
+    ensures { λ r. ⌜ Calls.Meets (Calls.outcome (Calls.plain eob) (block w h txtp 8 (now (coeff .entry)) (lent-8 (now (dst .entry)) view))) (answer-of r) (now (dst .exit)) (now (coeff .exit)) ⌝ }
+{
+    transform_8bpc(Announced::Eob(eob), dst, view, coeff, w, h, txtp)
+}
+
+// The live-row call on them.
+pub fn inv_txfm_add_live_8bpc(
+    dst: &mut [u8],
+    view: View,
+    coeff: &mut [i16],
+    r: usize,
+    w: usize,
+    h: usize,
+    txtp: usize,
+) -> Answer
+    ensures { λ a. ⌜ Calls.Meets (Calls.outcome (Calls.live r) (block w h txtp 8 (now (coeff .entry)) (lent-8 (now (dst .entry)) view))) (answer-of a) (now (dst .exit)) (now (coeff .exit)) ⌝ }
+{
+    transform_8bpc(Announced::LiveRows(r), dst, view, coeff, w, h, txtp)
 }
 
 fn is_adst(kind: Kind) -> bool
