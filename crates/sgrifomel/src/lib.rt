@@ -5,7 +5,7 @@ ghost use Prim.Native.Nat.{_*_, _≤_, _<_};
 ghost use Rattle.av1.specs.Sides.{of4, of8, of16, of32};
 ghost use Rattle.itx_1d.specs.Calls as Calls;
 ghost use Rattle.itx_1d.specs.declared.Kind.the-variants.{Dct, Identity, Adst, FlipAdst};
-ghost use Rattle.strided.specs.Planes.{lent};
+ghost use Rattle.strided.specs.Planes.{lent, lent-8};
 ghost use Rattle.itx.specs.Calls as Blocks;
 ghost use Rattle.itx.specs.Spec.{spec-outcome};
 ghost use Rattle.itx.specs.Answers as Answers;
@@ -246,6 +246,54 @@ pub extern "C" fn sgrifomel_inv_txfm_add_live(
         rows,
     };
     pack_answer(itx::inv_txfm_add_live(dst, view, coeff, r, w, h, txtp, depth))
+}
+
+#[no_mangle]
+pub extern "C" fn sgrifomel_inv_txfm_add_8bpc(
+    dst: &mut [u8],
+    offset: u32,
+    stride: i32,
+    columns: usize,
+    rows: usize,
+    coeff: &mut [i16],
+    eob: i32,
+    w: usize,
+    h: usize,
+    txtp: usize,
+) -> u64
+    ensures { λ r. ⌜ PacksBlock (Blocks.outcome (Blocks.plain eob) (block w h txtp 8 (now (coeff .entry)) (lent-8 (now (dst .entry)) (view offset stride columns rows)))) r (now (dst .exit)) (now (coeff .exit)) ⌝ }
+{
+    let view = View {
+        offset,
+        stride: ByteStride(stride),
+        columns,
+        rows,
+    };
+    pack_answer(itx::inv_txfm_add_8bpc(dst, view, coeff, eob, w, h, txtp))
+}
+
+#[no_mangle]
+pub extern "C" fn sgrifomel_inv_txfm_add_live_8bpc(
+    dst: &mut [u8],
+    offset: u32,
+    stride: i32,
+    columns: usize,
+    rows: usize,
+    coeff: &mut [i16],
+    r: usize,
+    w: usize,
+    h: usize,
+    txtp: usize,
+) -> u64
+    ensures { λ a. ⌜ PacksBlock (Blocks.outcome (Blocks.live r) (block w h txtp 8 (now (coeff .entry)) (lent-8 (now (dst .entry)) (view offset stride columns rows)))) a (now (dst .exit)) (now (coeff .exit)) ⌝ }
+{
+    let view = View {
+        offset,
+        stride: ByteStride(stride),
+        columns,
+        rows,
+    };
+    pack_answer(itx::inv_txfm_add_live_8bpc(dst, view, coeff, r, w, h, txtp))
 }
 
 #[no_mangle]
