@@ -64,6 +64,42 @@ pub fn block(dst: &[u16], c: &[i32]) {
     elements(c);
 }
 
+// Of a narrow call (E2).
+pub fn narrow(w: usize, h: usize, txtp: usize) {
+    number(b"narrow ", w as u64);
+    number(b"x", h as u64);
+    number(b" type ", txtp as u64);
+}
+
+fn byte(v: u8) {
+    number(b" ", v as u64);
+}
+
+pub fn narrow_pixels(dst: &[u8]) {
+    for i in 0..dst.len() {
+        let v = dst[i];
+        byte(v);
+    }
+}
+
+fn short(v: i16) {
+    signed(v as i32);
+}
+
+fn narrow_elements(c: &[i16]) {
+    for i in 0..c.len() {
+        let v = c[i];
+        short(v);
+    }
+}
+
+pub fn narrow_block(dst: &[u8], c: &[i16]) {
+    io::write_all(1, b" pixels");
+    narrow_pixels(dst);
+    io::write_all(1, b" coefficients");
+    narrow_elements(c);
+}
+
 pub fn call(name: &[u8], n: usize, c: &[i32], stride: usize) {
     io::write_all(1, name);
     io::print_decimal(1, n as u64);

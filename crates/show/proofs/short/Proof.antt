@@ -1,0 +1,12 @@
+-- `show::short` is safe.
+use mathlib.Core.Path.{_≡_, subst⁻¹}
+use native.Mathlib.Omega.{arith}
+use mir.Syntax.{w16, w32}
+use mir.Val.{SFits}
+use mir.ValLaws.{toZ-ofZ}
+use borrow.Author.Needs.{needs}
+use Rattle.show.proofs.short.Statement.{statement}
+use Rattle.show.proofs.short.Tie as tie
+
+pub short-spec : {M : Type 1} → statement M
+short-spec = tie.close (tie.spec (λ c. subst⁻¹ (SFits w32) (toZ-ofZ w16 (c .args .v) (c .fits .v)) (record { sfits = omega (arith, c .fits .v .sfits) })) (λ c κs. search needs) (λ c. search needs))
