@@ -34,6 +34,7 @@ use levels::Plan;
 use pixels::add_block;
 use pixels::add_block_8bpc;
 use pixels::add_four;
+use pixels::add_four_8bpc;
 use pixels::first_above;
 use pixels::shift_block;
 use pixels::shift_block_8bpc;
@@ -374,7 +375,7 @@ fn by_wht_8bpc(dst: &mut [u8], spot: Spot, coeff: &mut [i16], c: &[i32], r: usiz
 {
     let mut t = [0i32; 16];
     resolve_wht(&mut t, c, r);
-    add_block_8bpc(&mut *dst, spot, &t, 4, Kind::Wht);
+    add_four_8bpc(&mut *dst, spot, &t, 4, Kind::Wht);
     clear_8bpc(&mut *coeff, 16);
 }
 
@@ -585,6 +586,10 @@ fn transform_8bpc(
 ) -> Answer
     ensures { λ r. ⌜ Calls.Meets (Calls.outcome (call-of announced) (block w h txtp 8 (now (coeff .entry)) (lent-8 (now (dst .entry)) view))) (answer-of r) (now (dst .exit)) (now (coeff .exit)) ⌝ }
 {
+    if (w <= 4) & (h <= 4) {
+        let mut c = [0i32; 16];
+        return transform_in(&mut c, announced, dst, view, coeff, w, h, txtp);
+    }
     if (w <= 8) & (h <= 8) {
         let mut c = [0i32; 64];
         return transform_in(&mut c, announced, dst, view, coeff, w, h, txtp);

@@ -209,6 +209,18 @@ pub fn add_four(ps: &mut [u16], spot: Spot, t: &[i32], step: usize, columns: Kin
     }
 }
 
+// The same on 8-bit pixels (E2).
+pub fn add_four_8bpc(ps: &mut [u8], spot: Spot, t: &[i32], step: usize, columns: Kind)
+    requires { ⌜ Inner.Adding spot step (now ps) (now t) ⌝ }
+    ensures { λ _. ⌜ now (ps .exit) ≡ add-rows 255 (now (ps .entry)) (begins spot) (λ y x. Inner.left columns (at (now (t .entry)) (y * step + x))) (spot .columns) (spot .rows) ⌝ }
+{
+    if spot.columns == 4 {
+        add_block_8bpc(ps, spot.wide(4), t, step, columns);
+    } else {
+        add_block_8bpc(ps, spot, t, step, columns);
+    }
+}
+
 // As large as both: vector units have it, and not the larger.
 fn joint(p: u16, q: u16) -> u16
     ensures { λ r. ⌜ (p ≤ r) × (q ≤ r) ⌝ }

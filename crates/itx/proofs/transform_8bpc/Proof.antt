@@ -1,13 +1,17 @@
 -- `itx::transform_8bpc` meets its contract.
 use mathlib.Core.Path.{_≡_, refl}
 use mathlib.Core.Bool.{Bool, true, false, _&&_}
-use Prim.Native.Nat.{ℕ, _≤_}
+use Prim.Native.Nat.{ℕ, _*_, _≤_}
 use native.Mathlib.Nat.{mul-le-mul}
 use native.Mathlib.Omega.{arith}
 use borrow.Author.Needs.{needs}
 use borrow.Author.Tests.{leb-true}
 use lib.Dec.{leb}
+use Rattle.whole.specs.Checks.{Check}
+use Rattle.levels.specs.declared.Plan.{Plan}
+use Rattle.levels.specs.Plans.{plan}
 use Rattle.levels.proofs.Sizes.{side-bounds, plan-of, plan-sided}
+use Rattle.itx.specs.Answers.{Roomy}
 use Rattle.itx.proofs.transform_8bpc.Statement.{statement}
 use Rattle.itx.proofs.transform_8bpc.Tie as tie
 
@@ -16,36 +20,41 @@ both true t e = (refl, e)
 both false t e = (e, absurd (let z : _≡_ {A = ℕ} 0 1 = cc in omega arith))
 
 -- a plan has the sides that were asked for
-small : tie.Need-transform-in-requires
-small c κs =
-    let t = c .before .before .before in
-    let a = t .before .before .args in
-    let f = both (leb (a .w) 8) (leb (a .h) 8) (t .if1 .taken) in
-    record {
-      room = λ p e. (
-          let k = plan-of (a .w) (a .h) (a .txtp) p e in
-          let wide : p .w ≤ 8 = omega (arith, k .w-is, leb-true (a .w) 8 (f .0)) in
-          let high : p .h ≤ 8 = omega (arith, k .h-is, leb-true (a .h) 8 (f .1)) in
-          mul-le-mul wide high
-          );
-    }
+module _ (s : tie.Start) where
+  abbrev planned : Check Plan
+  planned = plan (s .args .w) (s .args .h) (s .args .txtp)
 
-large : tie.Need-transform-in-requires-2
-large c κs =
-    let a = c .before .before .before .before .before .args in
-    record { room = λ p e. let s = plan-sided (a .w) (a .h) (a .txtp) p e in mul-le-mul (side-bounds (p .w) (s .0) .1) (side-bounds (p .h) (s .1) .1) }
+  small : (n : ℕ) → leb (s .args .w) n && leb (s .args .h) n ≡ true → Roomy planned (n * n)
+  small n e =
+      let f = both (leb (s .args .w) n) (leb (s .args .h) n) e in
+      record {
+        room = λ p g. (
+            let k = plan-of (s .args .w) (s .args .h) (s .args .txtp) p g in
+            let wide : p .w ≤ n = omega (arith, k .w-is, leb-true (s .args .w) n (f .0)) in
+            let high : p .h ≤ n = omega (arith, k .h-is, leb-true (s .args .h) n (f .1)) in
+            mul-le-mul wide high
+            );
+      }
+
+  large : Roomy planned 1024
+  large = record { room = λ p g. let k = plan-sided (s .args .w) (s .args .h) (s .args .txtp) p g in mul-le-mul (side-bounds (p .w) (k .0) .1) (side-bounds (p .h) (k .1) .1) }
 
 pub transform-8bpc-spec : {M : Type 1} → statement M
 transform-8bpc-spec =
     tie.close
     (tie.spec
     (λ c. search needs)
-    small
+    (λ c κs. let t = c .before .before .before in small (t .before .before) 4 (t .if1 .taken))
     (λ c. search needs)
     (λ c. search needs)
     (λ c. search needs)
     (λ c. search needs)
-    large
+    (λ c κs. let t = c .before .before .before in small (t .before .before .before) 8 (t .if2 .taken))
+    (λ c. search needs)
+    (λ c. search needs)
+    (λ c. search needs)
+    (λ c. search needs)
+    (λ c κs. large (c .before .before .before .before .before .before))
     (λ c. search needs)
     (λ c. search needs)
     (λ c. search needs))
