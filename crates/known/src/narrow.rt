@@ -88,7 +88,7 @@ fn results() {
     tall(1);
 }
 
-// Coefficients that rise by rows, over pixels that rise.
+// Coefficients that rise.
 fn rising(dst: &mut [u8], view: View, eob: i32, txtp: usize) {
     let mut c = [
         0i16,
@@ -111,12 +111,17 @@ fn rising(dst: &mut [u8], view: View, eob: i32, txtp: usize) {
     plain(dst, view, &mut c, eob, 4, 4, txtp);
 }
 
+// By the shortcut.
+fn short(dst: &mut [u8], view: View) {
+    plain(dst, view, &mut [64i16; 16], 0, 4, 4, 0);
+}
+
 // A stride counts pixels, so an odd one is as good as an even one; shorter than w it is refused by 7.
 fn strides() {
     rising(&mut [100u8; 19], seen(0, 5, 4, 4), 1, 9);
     rising(&mut [100u8; 19], seen(15, -5, 4, 4), 1, 9);
     rising(&mut [100u8; 18], seen(15, -5, 4, 4), 1, 9);
-    rising(&mut [100u8; 25], seen(0, 7, 4, 4), 0, 0);
+    short(&mut [100u8; 25], seen(0, 7, 4, 4));
     rising(&mut [100u8; 16], seen(0, 3, 4, 4), 1, 9);
     rising(&mut [100u8; 16], seen(12, -3, 4, 4), 1, 9);
     rising(&mut [100u8; 16], seen(12, -4, 4, 4), 1, 16);
@@ -130,8 +135,8 @@ fn strides() {
 fn cropped() {
     rising(&mut [100u8; 8], seen(0, 5, 3, 2), 1, 9);
     rising(&mut [100u8; 7], seen(0, 5, 3, 2), 1, 9);
-    rising(&mut [100u8; 8], seen(5, -5, 3, 2), 0, 0);
-    rising(&mut [100u8; 8], seen(4, -5, 3, 2), 0, 0);
+    short(&mut [100u8; 8], seen(5, -5, 3, 2));
+    short(&mut [100u8; 8], seen(4, -5, 3, 2));
     rising(&mut [100u8; 20], seen(0, 4, 0, 4), 1, 9);
     rising(&mut [100u8; 20], seen(0, 4, 5, 4), 1, 9);
     rising(&mut [100u8; 20], seen(0, 4, 4, 5), 1, 9);
