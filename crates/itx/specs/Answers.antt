@@ -20,8 +20,8 @@ use Rattle.residual.specs.Blocks.{way-by, residual, marked, shortcut}
 use Rattle.residual.specs.Inner.{Sized, Coefs, Served}
 use Rattle.itx_1d.specs.Calls as Passes
 use Rattle.itx.specs.Calls.{Block, Call, Outcome, plain, live, with-adst, short, live-rows, verdict, outcome-of}
-use Rattle.itx.specs.declared.Announced.{Announced}
-use Rattle.itx.specs.declared.Announced.the-variants.{Eob, LiveRows}
+use Rattle.itx.specs.declared.Hint.{Hint}
+use Rattle.itx.specs.declared.Hint.the-variants.{Eob, LiveRows}
 use Rattle.itx.specs.declared.Answer.{Answer}
 use Rattle.itx.specs.declared.Answer.the-variants.{Done, Refused}
 use Rattle.itx.specs.declared.Refusal.{Refusal}
@@ -64,7 +64,7 @@ answer-of (Done mark) = Passes.acceptance mark
 answer-of (Refused r) = Passes.refusal (number r) (place r)
 
 -- which call announces so much
-abbrev pub call-of : Announced → Call
+abbrev pub call-of : Hint → Call
 call-of (Eob eob) = plain eob
 call-of (LiveRows r) = live r
 

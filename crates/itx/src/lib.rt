@@ -64,7 +64,7 @@ pub enum Refusal {
 }
 
 // What a call tells of its coefficients: the plain call an eob, the live-row call how many rows are live.
-enum Announced {
+enum Hint {
     Eob(i32),
     LiveRows(usize),
 }
@@ -205,13 +205,13 @@ fn check_rows(before: Verdict, r: usize) -> Verdict
 }
 
 // Numbers 4 and 5: each call has one.
-fn check_announced(before: Verdict, announced: Announced) -> Verdict
+fn check_hint(before: Verdict, hint: Hint) -> Verdict
     requires { ⌜ Asked before ⌝ }
-    ensures { λ r. ⌜ (verdict-of r ≡ then (verdict-of before) (judged (Calls.eob-line (call-of announced) ∷ Calls.rows-line (call-of announced) ∷ []))) × Asked r ⌝ }
+    ensures { λ r. ⌜ (verdict-of r ≡ then (verdict-of before) (judged (Calls.eob-line (call-of hint) ∷ Calls.rows-line (call-of hint) ∷ []))) × Asked r ⌝ }
 {
-    match announced {
-        Announced::Eob(eob) => check_eob(before, eob),
-        Announced::LiveRows(r) => check_rows(before, r),
+    match hint {
+        Hint::Eob(eob) => check_eob(before, eob),
+        Hint::LiveRows(r) => check_rows(before, r),
     }
 }
 
@@ -270,7 +270,7 @@ fn check_range(before: Verdict, coeff: &[i32]) -> Verdict
 
 // Numbers 1 to 8 and 20, for which the lengths of the slices are enough.
 fn check_lengths(
-    announced: Announced,
+    hint: Hint,
     width: Width,
     size: usize,
     view: View,
@@ -280,20 +280,20 @@ fn check_lengths(
     txtp: usize,
     depth: usize,
 ) -> Verdict
-    ensures { λ r. ⌜ (verdict-of r ≡ then (then (Plans.plan w h txtp) (Calls.with-depth depth)) (judged (Calls.lengths-lines (call-of announced) count width size view))) × Lies (spot width view) r × Looks size r × Enough count r × RowsIn (call-of announced) r ⌝ }
+    ensures { λ r. ⌜ (verdict-of r ≡ then (then (Plans.plan w h txtp) (Calls.with-depth depth)) (judged (Calls.lengths-lines (call-of hint) count width size view))) × Lies (spot width view) r × Looks size r × Enough count r × RowsIn (call-of hint) r ⌝ }
 {
     let kind = check_kind(w, h, txtp, depth);
-    let known = check_announced(kind, announced);
+    let known = check_hint(kind, hint);
     let counted = check_count(known, count);
     check_plane(counted, width, size, view)
 }
 
 // Number 10, which the live-row call has.
-fn check_stray(before: Verdict, coeff: &[i32], announced: Announced) -> Verdict
-    requires { ⌜ Enough (length (now coeff)) before × RowsIn (call-of announced) before ⌝ }
-    ensures { λ v. ⌜ (verdict-of v ≡ then (verdict-of before) (judged (Calls.stray-line (call-of announced) (now (coeff .entry)) ∷ []))) × Handed before v ⌝ }
+fn check_stray(before: Verdict, coeff: &[i32], hint: Hint) -> Verdict
+    requires { ⌜ Enough (length (now coeff)) before × RowsIn (call-of hint) before ⌝ }
+    ensures { λ v. ⌜ (verdict-of v ≡ then (verdict-of before) (judged (Calls.stray-line (call-of hint) (now (coeff .entry)) ∷ []))) × Handed before v ⌝ }
 {
-    let Announced::LiveRows(r) = announced else {
+    let Hint::LiveRows(r) = hint else {
         return before;
     };
     let Verdict::At(plan, _, _) = before else {
@@ -406,12 +406,12 @@ fn by_passes_8bpc(
 }
 
 // The shortcut is due: DCT_DCT with eob 0.
-fn is_short(plan: Plan, announced: Announced) -> bool
-    ensures { λ r. ⌜ r ≡ Calls.short (call-of announced) plan ⌝ }
+fn is_short(plan: Plan, hint: Hint) -> bool
+    ensures { λ r. ⌜ r ≡ Calls.short (call-of hint) plan ⌝ }
 {
     let rows = plan.rows;
     let columns = plan.columns;
-    let Announced::Eob(eob) = announced else {
+    let Hint::Eob(eob) = hint else {
         return false;
     };
     if eob != 0 {
@@ -427,19 +427,19 @@ fn is_short(plan: Plan, announced: Announced) -> bool
 }
 
 // How many rows the long way passes over. The plain call leaves out rows that are zero: that changes nothing, by demand 3.
-fn rows_to_pass(announced: Announced, coeff: &[i32], plan: Plan) -> usize
+fn rows_to_pass(hint: Hint, coeff: &[i32], plan: Plan) -> usize
     requires { ⌜ (plan .w * plan .h ≤ length (now coeff)) × (1 ≤ plan .h) ⌝ }
-    ensures { λ r. ⌜ Suits (call-of announced) plan (now (coeff .entry)) r ⌝ }
+    ensures { λ r. ⌜ Suits (call-of hint) plan (now (coeff .entry)) r ⌝ }
 {
-    match announced {
-        Announced::Eob(_) => live_rows(coeff, plan.w, plan.h),
-        Announced::LiveRows(r) => r,
+    match hint {
+        Hint::Eob(_) => live_rows(coeff, plan.w, plan.h),
+        Hint::LiveRows(r) => r,
     }
 }
 
 // All numbers of a block call.
 fn check(
-    announced: Announced,
+    hint: Hint,
     dst: &[u16],
     view: View,
     coeff: &[i32],
@@ -448,13 +448,13 @@ fn check(
     txtp: usize,
     depth: usize,
 ) -> Verdict
-    ensures { λ r. ⌜ (verdict-of r ≡ Calls.verdict (call-of announced) (block w h txtp depth (now (coeff .entry)) (lent (now (dst .entry)) view))) × Lies (spot Wide view) r ⌝ }
+    ensures { λ r. ⌜ (verdict-of r ≡ Calls.verdict (call-of hint) (block w h txtp depth (now (coeff .entry)) (lent (now (dst .entry)) view))) × Lies (spot Wide view) r ⌝ }
 {
     let size = dst.len();
     let count = coeff.len();
-    let placed = check_lengths(announced, Width::Wide, size, view, count, w, h, txtp, depth);
+    let placed = check_lengths(hint, Width::Wide, size, view, count, w, h, txtp, depth);
     let ranged = check_range(placed, coeff);
-    let covered = check_stray(ranged, coeff, announced);
+    let covered = check_stray(ranged, coeff, hint);
     check_pixels(covered, dst)
 }
 
@@ -483,7 +483,7 @@ fn by_shortcut_8bpc(dst: &mut [u8], spot: Spot, coeff: &mut [i16], plan: Plan)
 // Both calls, by an engine.
 fn transform(
     engine: Engine,
-    announced: Announced,
+    hint: Hint,
     dst: &mut [u16],
     view: View,
     coeff: &mut [i32],
@@ -493,19 +493,19 @@ fn transform(
     depth: usize,
 ) -> Answer
     requires { ⌜ Allowed engine (Plans.plan w h txtp) ⌝ }
-    ensures { λ r. ⌜ Calls.Meets (left engine (call-of announced) (block w h txtp depth (now (coeff .entry)) (lent (now (dst .entry)) view))) (answer-of r) (now (dst .exit)) (now (coeff .exit)) ⌝ }
+    ensures { λ r. ⌜ Calls.Meets (left engine (call-of hint) (block w h txtp depth (now (coeff .entry)) (lent (now (dst .entry)) view))) (answer-of r) (now (dst .exit)) (now (coeff .exit)) ⌝ }
 {
-    let checked = check(announced, &*dst, view, &*coeff, w, h, txtp, depth);
+    let checked = check(hint, &*dst, view, &*coeff, w, h, txtp, depth);
     match checked {
         Verdict::Stop(refusal) => Answer::Refused(refusal),
         // Never: the check of the plane has found a place or stopped.
         Verdict::Go(_, _) => Answer::Refused(Refusal::RowOutside),
         Verdict::At(plan, d, spot) => {
-            if is_short(plan, announced) {
+            if is_short(plan, hint) {
                 by_shortcut(dst, spot, coeff, plan, d);
                 return Answer::Done(false);
             }
-            let r = rows_to_pass(announced, &*coeff, plan);
+            let r = rows_to_pass(hint, &*coeff, plan);
             let mark = by_passes(engine, dst, spot, coeff, plan, d, r);
             Answer::Done(mark)
         }
@@ -525,24 +525,24 @@ fn check_range_8bpc(before: Verdict, coeff: &[i16]) -> Verdict
 }
 
 // Number 10 on a narrow block. For the long way c gets the coefficients at the width that the search and the passes read; the shortcut takes the first as it is.
-fn check_stray_8bpc(before: Verdict, c: &mut [i32], coeff: &[i16], announced: Announced) -> Verdict
-    requires { ⌜ Enough (length (now coeff)) before × Enough (length (now c)) before × RowsIn (call-of announced) before ⌝ }
-    ensures { λ v. ⌜ (verdict-of v ≡ then (verdict-of before) (judged (Calls.stray-line (call-of announced) (now (coeff .entry)) ∷ []))) × Handed before v × Copied (call-of announced) (now (coeff .entry)) (now (c .exit)) v ⌝ }
+fn check_stray_8bpc(before: Verdict, c: &mut [i32], coeff: &[i16], hint: Hint) -> Verdict
+    requires { ⌜ Enough (length (now coeff)) before × Enough (length (now c)) before × RowsIn (call-of hint) before ⌝ }
+    ensures { λ v. ⌜ (verdict-of v ≡ then (verdict-of before) (judged (Calls.stray-line (call-of hint) (now (coeff .entry)) ∷ []))) × Handed before v × Copied (call-of hint) (now (coeff .entry)) (now (c .exit)) v ⌝ }
 {
     let Verdict::At(plan, _, _) = before else {
         return before;
     };
-    if is_short(plan, announced) {
+    if is_short(plan, hint) {
         return before;
     }
     widen(&mut *c, coeff, plan.w * plan.h);
-    check_stray(before, &*c, announced)
+    check_stray(before, &*c, hint)
 }
 
 // Both narrow calls, with room for the coefficients at the passes' width. Number 21 never applies: every byte is a pixel of depth 8.
 fn transform_in(
     c: &mut [i32],
-    announced: Announced,
+    hint: Hint,
     dst: &mut [u8],
     view: View,
     coeff: &mut [i16],
@@ -551,23 +551,23 @@ fn transform_in(
     txtp: usize,
 ) -> Answer
     requires { ⌜ Roomy (Plans.plan w h txtp) (length (now c)) ⌝ }
-    ensures { λ r. ⌜ Calls.Meets (Calls.outcome (call-of announced) (block w h txtp 8 (now (coeff .entry)) (lent-8 (now (dst .entry)) view))) (answer-of r) (now (dst .exit)) (now (coeff .exit)) ⌝ }
+    ensures { λ r. ⌜ Calls.Meets (Calls.outcome (call-of hint) (block w h txtp 8 (now (coeff .entry)) (lent-8 (now (dst .entry)) view))) (answer-of r) (now (dst .exit)) (now (coeff .exit)) ⌝ }
 {
     let size = dst.len();
     let count = coeff.len();
-    let placed = check_lengths(announced, Width::Narrow, size, view, count, w, h, txtp, 8);
+    let placed = check_lengths(hint, Width::Narrow, size, view, count, w, h, txtp, 8);
     let ranged = check_range_8bpc(placed, &*coeff);
-    let checked = check_stray_8bpc(ranged, &mut *c, &*coeff, announced);
+    let checked = check_stray_8bpc(ranged, &mut *c, &*coeff, hint);
     match checked {
         Verdict::Stop(refusal) => Answer::Refused(refusal),
         // Never, as in `transform`.
         Verdict::Go(_, _) => Answer::Refused(Refusal::RowOutside),
         Verdict::At(plan, _, spot) => {
-            if is_short(plan, announced) {
+            if is_short(plan, hint) {
                 by_shortcut_8bpc(dst, spot, coeff, plan);
                 return Answer::Done(false);
             }
-            let r = rows_to_pass(announced, &*c, plan);
+            let r = rows_to_pass(hint, &*c, plan);
             let mark = by_passes_8bpc(dst, spot, coeff, &*c, plan, r);
             Answer::Done(mark)
         }
@@ -576,7 +576,7 @@ fn transform_in(
 
 // Small blocks have a small room, since it is filled with zeros first.
 fn transform_8bpc(
-    announced: Announced,
+    hint: Hint,
     dst: &mut [u8],
     view: View,
     coeff: &mut [i16],
@@ -584,18 +584,18 @@ fn transform_8bpc(
     h: usize,
     txtp: usize,
 ) -> Answer
-    ensures { λ r. ⌜ Calls.Meets (Calls.outcome (call-of announced) (block w h txtp 8 (now (coeff .entry)) (lent-8 (now (dst .entry)) view))) (answer-of r) (now (dst .exit)) (now (coeff .exit)) ⌝ }
+    ensures { λ r. ⌜ Calls.Meets (Calls.outcome (call-of hint) (block w h txtp 8 (now (coeff .entry)) (lent-8 (now (dst .entry)) view))) (answer-of r) (now (dst .exit)) (now (coeff .exit)) ⌝ }
 {
     if (w <= 4) & (h <= 4) {
         let mut c = [0i32; 16];
-        return transform_in(&mut c, announced, dst, view, coeff, w, h, txtp);
+        return transform_in(&mut c, hint, dst, view, coeff, w, h, txtp);
     }
     if (w <= 8) & (h <= 8) {
         let mut c = [0i32; 64];
-        return transform_in(&mut c, announced, dst, view, coeff, w, h, txtp);
+        return transform_in(&mut c, hint, dst, view, coeff, w, h, txtp);
     }
     let mut c = [0i32; 1024];
-    transform_in(&mut c, announced, dst, view, coeff, w, h, txtp)
+    transform_in(&mut c, hint, dst, view, coeff, w, h, txtp)
 }
 
 // The plain call.
@@ -611,18 +611,8 @@ pub fn inv_txfm_add(
 ) -> Answer
     ensures { λ r. ⌜ Calls.Meets (Calls.outcome (Calls.plain eob) (block w h txtp depth (now (coeff .entry)) (lent (now (dst .entry)) view))) (answer-of r) (now (dst .exit)) (now (coeff .exit)) ⌝ }
 {
-    let announced = Announced::Eob(eob);
-    transform(
-        Engine::First,
-        announced,
-        dst,
-        view,
-        coeff,
-        w,
-        h,
-        txtp,
-        depth,
-    )
+    let hint = Hint::Eob(eob);
+    transform(Engine::First, hint, dst, view, coeff, w, h, txtp, depth)
 }
 
 // The live-row call.
@@ -638,18 +628,8 @@ pub fn inv_txfm_add_live(
 ) -> Answer
     ensures { λ a. ⌜ Calls.Meets (Calls.outcome (Calls.live r) (block w h txtp depth (now (coeff .entry)) (lent (now (dst .entry)) view))) (answer-of a) (now (dst .exit)) (now (coeff .exit)) ⌝ }
 {
-    let announced = Announced::LiveRows(r);
-    transform(
-        Engine::First,
-        announced,
-        dst,
-        view,
-        coeff,
-        w,
-        h,
-        txtp,
-        depth,
-    )
+    let hint = Hint::LiveRows(r);
+    transform(Engine::First, hint, dst, view, coeff, w, h, txtp, depth)
 }
 
 // The plain call on eight-bit pages at their own width (E2).
@@ -664,7 +644,7 @@ pub fn inv_txfm_add_8bpc(
 ) -> Answer
     ensures { λ r. ⌜ Calls.Meets (Calls.outcome (Calls.plain eob) (block w h txtp 8 (now (coeff .entry)) (lent-8 (now (dst .entry)) view))) (answer-of r) (now (dst .exit)) (now (coeff .exit)) ⌝ }
 {
-    transform_8bpc(Announced::Eob(eob), dst, view, coeff, w, h, txtp)
+    transform_8bpc(Hint::Eob(eob), dst, view, coeff, w, h, txtp)
 }
 
 // The live-row call on them.
@@ -679,7 +659,7 @@ pub fn inv_txfm_add_live_8bpc(
 ) -> Answer
     ensures { λ a. ⌜ Calls.Meets (Calls.outcome (Calls.live r) (block w h txtp 8 (now (coeff .entry)) (lent-8 (now (dst .entry)) view))) (answer-of a) (now (dst .exit)) (now (coeff .exit)) ⌝ }
 {
-    transform_8bpc(Announced::LiveRows(r), dst, view, coeff, w, h, txtp)
+    transform_8bpc(Hint::LiveRows(r), dst, view, coeff, w, h, txtp)
 }
 
 fn is_adst(kind: Kind) -> bool
@@ -726,8 +706,8 @@ pub fn spec_inv_txfm_add(
     if has_adst(w, h, txtp) {
         return Answer::Refused(Refusal::NoType);
     }
-    let announced = Announced::Eob(eob);
-    transform(Engine::Spec, announced, dst, view, coeff, w, h, txtp, depth)
+    let hint = Hint::Eob(eob);
+    transform(Engine::Spec, hint, dst, view, coeff, w, h, txtp, depth)
 }
 
 // The live-row call of the second engine.
@@ -746,6 +726,6 @@ pub fn spec_inv_txfm_add_live(
     if has_adst(w, h, txtp) {
         return Answer::Refused(Refusal::NoType);
     }
-    let announced = Announced::LiveRows(r);
-    transform(Engine::Spec, announced, dst, view, coeff, w, h, txtp, depth)
+    let hint = Hint::LiveRows(r);
+    transform(Engine::Spec, hint, dst, view, coeff, w, h, txtp, depth)
 }

@@ -33,7 +33,7 @@ returns c =
     let o = r .before in
     let a = o .before .before .args in
     let v = spot Wide (a .view) in
-    let call = call-of (a .announced) in
+    let call = call-of (a .hint) in
     let known : Check (Plan × Depth) = then (plan (a .w) (a .h) (a .txtp)) (with-depth (a .depth)) in
     let front = lengths-lines call (length (a .coeff .now)) Wide (length (a .dst .now)) (a .view) in
     let ranged = range-line (a .coeff .now) in
@@ -51,6 +51,6 @@ check-spec =
     (tie.spec
     (λ c κs. search needs)
     (λ c κs. c .check-lengths .ensures .3)
-    (λ c κs. (still (Enough _) (λ x. tt) c (c .before .check-lengths .ensures .3), still (RowsIn (call-of (c .before .before .before .args .announced))) (λ x. tt) c (c .before .check-lengths .ensures .4)))
+    (λ c κs. (still (Enough _) (λ x. tt) c (c .before .check-lengths .ensures .3), still (RowsIn (call-of (c .before .before .before .args .hint))) (λ x. tt) c (c .before .check-lengths .ensures .4)))
     (λ c κs. still-2 (Looks _) (λ x. tt) c (c .before .before .check-lengths .ensures .2))
     returns)

@@ -18,16 +18,16 @@ abbrev known : tie.Start → Check (Plan × Depth)
 known s = then (plan (s .args .w) (s .args .h) (s .args .txtp)) (with-depth (s .args .depth))
 
 abbrev own : tie.Start → List (Line (Plan × Depth))
-own s = eob-line (call-of (s .args .announced)) ∷ rows-line (call-of (s .args .announced)) ∷ []
+own s = eob-line (call-of (s .args .hint)) ∷ rows-line (call-of (s .args .hint)) ∷ []
 
 returns : tie.Need-returns
 returns c =
     let k = c .before .before .before in
     let a = k .before .args in
-    let call = call-of (a .announced) in
+    let call = call-of (a .hint) in
     let counted = count-line (a .count) in
     let lying = plane-lines (a .width) (a .size) (a .view) in
-    let first = c .before .before .check-announced .ensures .0 ∙ ap (λ v. then v (judged (own (k .before)))) (k .check-kind .ensures .0) in
+    let first = c .before .before .check-hint .ensures .0 ∙ ap (λ v. then v (judged (own (k .before)))) (k .check-kind .ensures .0) in
     let all = further (eob-line call ∷ rows-line call ∷ counted ∷ []) lying (known (k .before)) (further (own (k .before)) (counted ∷ []) (known (k .before)) first (c .before .check-count .ensures .0)) (c .check-plane .ensures .0) in
     let g = granted (known (k .before)) call (a .count) (a .width) (a .size) (a .view) (spot (a .width) (a .view)) (c .check-plane .result) (c .check-plane .ensures .1) all in
     (all, c .check-plane .ensures .1, c .check-plane .ensures .2, g .0, g .1)
@@ -38,6 +38,6 @@ check-lengths-spec =
     (tie.spec
     (λ c κs. search needs)
     (λ c κs. c .check-kind .ensures .1)
-    (λ c κs. c .check-announced .ensures .1)
+    (λ c κs. c .check-hint .ensures .1)
     (λ c κs. c .check-count .ensures .1)
     returns)

@@ -9,7 +9,7 @@ use Rattle.bitdepth.specs.declared.Depth.{Depth}
 use Rattle.coefs.specs.declared.Found.{Found}
 use Rattle.coefs.specs.Coefs.{found}
 use Rattle.levels.specs.declared.Plan.{Plan}
-use Rattle.itx.specs.declared.Announced.{Announced}
+use Rattle.itx.specs.declared.Hint.{Hint}
 use Rattle.itx.specs.declared.Verdict.{Verdict}
 use Rattle.itx.specs.declared.Verdict.the-variants.{Go, At, Stop}
 use Rattle.itx.specs.Answers.{verdict-of, call-of, Enough, RowsIn, Handed}
@@ -28,10 +28,10 @@ quiet n (At p d s) eob c f = (refl, refl)
 quiet n (Stop r) eob c f = (refl, tt)
 
 abbrev line : tie.Start → Line (Plan × Depth)
-line s = stray-line (call-of (s .args .announced)) (s .args .coeff .now)
+line s = stray-line (call-of (s .args .hint)) (s .args .coeff .now)
 
 module _ (o : tie.After-known-told2) where
-  abbrev known : tie.After-announced
+  abbrev known : tie.After-hint
   known = o .before .before .before .before
 
   abbrev begun : tie.Start
@@ -39,10 +39,10 @@ module _ (o : tie.After-known-told2) where
 
 -- what was found is the stray of the call
 stray-is : (o : tie.After-first-stray) {f : Found} → o .first-stray .result ≡ f
-    → found f ≡ stray (call-of (begun (o .before) .args .announced)) (o .before .before .before2 .given .0 .0) (begun (o .before) .args .coeff .now)
+    → found f ≡ stray (call-of (begun (o .before) .args .hint)) (o .before .before .before2 .given .0 .0) (begun (o .before) .args .coeff .now)
 stray-is o e =
     ap found (sym e) ∙ o .first-stray .ensures
-    ∙ ap (λ (a : Announced). stray (call-of a) (o .before .before .before2 .given .0 .0) (begun (o .before) .args .coeff .now)) (sym (known (o .before) .announced .given .1))
+    ∙ ap (λ (a : Hint). stray (call-of a) (o .before .before .before2 .given .0 .0) (begun (o .before) .args .coeff .now)) (sym (known (o .before) .hint .given .1))
 
 pub check-stray-spec : {M : Type 1} → statement M
 check-stray-spec =
@@ -52,13 +52,13 @@ check-stray-spec =
     (λ c. search needs)
     (λ c.
     let s = c .before .before in
-    subst⁻¹ (λ (a : Announced). Judged (s .args .before) (s .args .coeff .now) (call-of a)) (c .enum-told .given .1) (quiet _ (s .args .before) (c .enum-told .given .0 .0) (s .args .coeff .now) (s .pre .0)))
+    subst⁻¹ (λ (a : Hint). Judged (s .args .before) (s .args .coeff .now) (call-of a)) (c .enum-told .given .1) (quiet _ (s .args .before) (c .enum-told .given .0 .0) (s .args .coeff .now) (s .pre .0)))
     (λ c. search needs)
     (λ c. let s = c .before .before .before .before in halted (s .args .before) (judged (line s ∷ [])) (Enough _) (λ p d f. f) (c .match2 .keys2) (s .pre .0))
     (λ c κs.
     let e = c .before .before2 .given .1 in
-    let rows = subst (RowsIn (call-of (begun c .args .announced))) e (begun c .pre .1) in
-    (subst (Enough _) e (begun c .pre .0), subst (λ (a : Announced). live-rows (call-of a) (c .before .before2 .given .0 .0) ≤ c .before .before2 .given .0 .0 .h) (known c .announced .given .1) rows))
+    let rows = subst (RowsIn (call-of (begun c .args .hint))) e (begun c .pre .1) in
+    (subst (Enough _) e (begun c .pre .0), subst (λ (a : Hint). live-rows (call-of a) (c .before .before2 .given .0 .0) ≤ c .before .before2 .given .0 .0 .h) (known c .hint .given .1) rows))
     (λ c. search needs)
     (λ c. search needs)
     (λ c.

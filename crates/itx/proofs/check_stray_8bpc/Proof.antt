@@ -25,7 +25,7 @@ short-quiet (plain eob) p c e = refl
 short-quiet (live r) p c e = let z : _≡_ {A = ℕ} 0 1 = cc in let f : ⊥ = omega arith in absurd f
 
 abbrev call : tie.Start → Call
-call s = call-of (s .args .announced)
+call s = call-of (s .args .hint)
 
 abbrev line : tie.Start → Line (Plan × Depth)
 line s = stray-line (call s) (s .args .coeff .now)
@@ -49,7 +49,7 @@ module _ (k : tie.After-known-told) where
 clash : {A : Type 0} {t : Bool} → t ≡ true → t ≡ false → A
 clash e f = let z : _≡_ {A = ℕ} 0 1 = cc in let g : ⊥ = omega arith in absurd g
 
--- what was announced is short
+-- what was hint is short
 shortened : tie.Need-returns-2
 shortened c =
     let k = c .before .before in

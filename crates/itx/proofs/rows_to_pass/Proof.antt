@@ -2,12 +2,12 @@
 use mathlib.Core.Path.{refl, subst⁻¹}
 use Prim.Native.Nat.{ℕ}
 use borrow.Author.Needs.{needs}
-use Rattle.itx.specs.declared.Announced.{Announced}
+use Rattle.itx.specs.declared.Hint.{Hint}
 use Rattle.itx.specs.Answers.{call-of, Suits}
 use Rattle.itx.proofs.rows_to_pass.Statement.{statement}
 use Rattle.itx.proofs.rows_to_pass.Tie as tie
 
-abbrev Fit : tie.Start → ℕ → Announced → Type 0
+abbrev Fit : tie.Start → ℕ → Hint → Type 0
 Fit s r a = Suits (call-of a) (s .args .plan) (s .args .coeff .now) r
 
 pub rows-to-pass-spec : {M : Type 1} → statement M
@@ -18,4 +18,4 @@ rows-to-pass-spec =
     (λ c κs. c .before .before .pre)
     (λ c. search needs)
     (λ c. let o = c .before in subst⁻¹ (Fit (o .before .before) _) (o .enum-told .given .1) (c .live-rows .ensures .0 .1, c .live-rows .ensures .1))
-    (λ c. let o = c .before in subst⁻¹ (Fit (o .before .before) _) (o .announced .given .1) refl))
+    (λ c. let o = c .before in subst⁻¹ (Fit (o .before .before) _) (o .hint .given .1) refl))

@@ -18,7 +18,7 @@ use Rattle.itx.proofs.transform.Statement.{statement}
 use Rattle.itx.proofs.transform.Tie as tie
 
 abbrev call : tie.Start → Call
-call s = call-of (s .args .announced)
+call s = call-of (s .args .hint)
 
 abbrev given : tie.Start → Block
 given s = block (s .args .w) (s .args .h) (s .args .txtp) (s .args .depth) (s .args .coeff .now) (lent (s .args .dst .now) (s .args .view))

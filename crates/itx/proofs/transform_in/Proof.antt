@@ -34,7 +34,7 @@ use Rattle.itx.proofs.transform_in.Tie as tie
 
 module _ (s : tie.Start) where
   abbrev call : Call
-  call = call-of (s .args .announced)
+  call = call-of (s .args .hint)
 
   abbrev given : Block
   given = block (s .args .w) (s .args .h) (s .args .txtp) 8 (s .args .coeff .now) (lent-8 (s .args .dst .now) (s .args .view))
