@@ -19,7 +19,7 @@ use Rattle.residual.specs.declared.Engine.the-variants.{First, Spec}
 use Rattle.residual.specs.Blocks.{way-by, marked, row, column}
 use Rattle.itx.specs.Answers.{left, Allowed, adst-planned}
 use Rattle.itx.specs.Av1.{av1-way}
-use Rattle.itx.specs.Calls.{Block, Call, Outcome, Meets, checked, verdict, spec-verdict, with-adst, short, live-rows, by-shortcut, outcome-of, outcome}
+use Rattle.itx.specs.Calls.{Block, Call, Outcome, Meets, checked, spec-verdict, with-adst, short, live-rows, by-shortcut, outcome-of, outcome}
 use Rattle.itx.specs.Spec.{spec-outcome}
 use Rattle.itx.proofs.Outcomes.{met}
 use Rattle.itx.proofs.Av1Same.{enter-av1, between-av1, unmarked-av1}

@@ -12,7 +12,6 @@ ghost use Rattle.whole.specs.Checks.{then, judged};
 ghost use Rattle.levels.specs.Plans as Plans;
 ghost use Rattle.itx_1d.specs.Manners.{is-adst};
 ghost use Rattle.residual.specs.Inner.{wht-plan, Served};
-ghost use Rattle.residual.specs.Blocks.{way-by};
 ghost use Rattle.itx.specs.Spec as Spec;
 ghost use Rattle.itx.specs.Calls as Calls;
 ghost use Rattle.itx.specs.Answers as Answers;

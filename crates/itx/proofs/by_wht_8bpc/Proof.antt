@@ -3,7 +3,6 @@ use mathlib.Core.Path.{refl}
 use lib.Dec.{lit≤}
 use borrow.Author.Needs.{needs}
 use Rattle.bitdepth.specs.declared.Depth.the-variants.{Eight}
-use Rattle.residual.specs.Inner.{wht-plan}
 use Rattle.itx.proofs.Copies.{small-copy, resolved-copy, any-shift-copy}
 use Rattle.itx.proofs.Painting.{zeros-at, adding, painted}
 use Rattle.itx.proofs.by_wht_8bpc.Statement.{statement}

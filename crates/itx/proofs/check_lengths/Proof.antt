@@ -1,5 +1,5 @@
 -- `itx::check_lengths` meets its contract.
-use mathlib.Core.Path.{_≡_, ap, _∙_}
+use mathlib.Core.Path.{ap, _∙_}
 use mathlib.Core.List.{List, [], _∷_}
 use borrow.Author.Needs.{needs}
 use Rattle.whole.specs.Checks.{Check, then, Line, judged}

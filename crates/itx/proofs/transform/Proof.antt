@@ -1,13 +1,12 @@
 -- `itx::transform` meets its contract.
 use mathlib.Core.Bool.{Bool}
 use mathlib.Core.Path.{_≡_, sym, ap, _∙_, subst}
-use Prim.Native.Nat.{_≤_}
 use borrow.Author.Needs.{needs}
 use Rattle.bitdepth.specs.declared.Depth.{Depth}
 use Rattle.levels.specs.declared.Plan.{Plan}
 use Rattle.strided.specs.declared.Width.the-variants.{Wide}
 use Rattle.strided.specs.Planes.{spot, lent}
-use Rattle.itx.specs.Calls.{Block, Call, short, verdict}
+use Rattle.itx.specs.Calls.{Block, Call, short}
 use Rattle.itx.specs.Answers.{verdict-of, call-of, block, Lies, Ready}
 use Rattle.residual.specs.Inner.{Served}
 use Rattle.itx.specs.Demands as Demands
