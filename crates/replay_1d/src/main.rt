@@ -6,8 +6,12 @@ ghost use lib.ListN.{length};
 use words::bits;
 use words::load;
 use words::put_word;
+use words::read_head;
+use words::read_rest;
 use words::signed;
+use words::stop;
 use words::word_at;
+use words::write_answer;
 
 // The answer's word, or that there is no such pass.
 enum Ran {
@@ -88,26 +92,12 @@ fn store(c: &[i32], b: &mut [u8])
     }
 }
 
-fn write_answer(answer: u64) -> bool {
-    let mut b = [0u8; 12];
-    put_word(&mut b, 0, (answer % 256) as u32);
-    put_word(&mut b, 4, (answer / 65536 % 4294967296) as u32);
-    put_word(&mut b, 8, (answer / 256 % 2) as u32);
-    io::write_all(1, &b)
-}
-
-fn stop(message: &[u8]) -> bool {
-    io::write_all(2, message);
-    false
-}
-
 // A record after its head, with room for its elements. The range is -1 - high .. high.
 fn replay_elements(b: &mut [u8], c: &mut [i32], kind: u32, n: u32, stride: usize, high: u32) -> bool
     requires { ⌜ 4 * length (now c) ≤ length (now b) ⌝ }
 {
-    let got = io::read_full(0, &mut *b);
-    if got < b.len() {
-        return stop(b"the input ends inside a record\n");
+    if !read_rest(&mut *b) {
+        return false;
     }
     load(&*b, &mut *c);
     let min = signed(4294967295 - high);
@@ -129,12 +119,8 @@ fn field(head: &[u8; 20], i: usize) -> u32
 // Runs one record, and answers whether to go on.
 fn replay() -> bool {
     let mut head = [0u8; 20];
-    let got = io::read_full(0, &mut head);
-    if got == 0 {
+    if !read_head(&mut head) {
         return false;
-    }
-    if got < 20 {
-        return stop(b"the input ends inside a record\n");
     }
     let m = field(&head, 3);
     if m == 0 {

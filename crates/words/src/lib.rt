@@ -1,4 +1,5 @@
-// Words of 32 bits, low byte first, as tools/oracle writes them, and the signed numbers that they hold.
+// Words of 32 bits, low byte first, as tools/oracle writes them, and the signed numbers that they hold; and what the programs that
+// replay its records share.
 ghost use mathlib.Core.Path.{_≡_};
 ghost use Prim.Native.Nat.{_+_, _*_, _≤_, _<_};
 ghost use lib.ListN.{length};
@@ -66,4 +67,42 @@ pub fn load(b: &[u8], c: &mut [i32])
         let v = signed(word_at(b, 4 * i));
         c[i] = v;
     }
+}
+
+// Tells why a program ends, and answers that it does not go on.
+pub fn stop(message: &[u8]) -> bool {
+    io::write_all(2, message);
+    false
+}
+
+// Whether so many bytes of a part of a record are all of it; if not, it tells that.
+fn whole(got: usize, size: usize) -> bool {
+    if got < size {
+        return stop(b"the input ends inside a record\n");
+    }
+    true
+}
+
+// Fills a buffer with a part of a record, and answers whether it could.
+pub fn read_rest(b: &mut [u8]) -> bool {
+    let got = io::read_full(0, &mut *b);
+    whole(got, b.len())
+}
+
+// The same with the head of a record, before which the input may end.
+pub fn read_head(b: &mut [u8]) -> bool {
+    let got = io::read_full(0, &mut *b);
+    if got == 0 {
+        return false;
+    }
+    whole(got, b.len())
+}
+
+// Writes number, place and mark of an exported call's answer.
+pub fn write_answer(answer: u64) -> bool {
+    let mut b = [0u8; 12];
+    put_word(&mut b, 0, (answer % 256) as u32);
+    put_word(&mut b, 4, (answer / 65536 % 4294967296) as u32);
+    put_word(&mut b, 8, (answer / 256 % 2) as u32);
+    io::write_all(1, &b)
 }
