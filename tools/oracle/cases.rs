@@ -3,6 +3,7 @@
 use crate::calls::{BlockCall, PassCall, Way};
 use crate::format::Record;
 use crate::itx::Kind;
+use crate::words;
 use std::ops::Range;
 
 pub const SIZES: [(usize, usize); 14] = [
@@ -265,6 +266,65 @@ pub fn block_call(rng: &mut Rng, record: &Record) -> BlockCall {
         txtp: record.txtp,
         depth: record.depth,
     }
+}
+
+/// The numbers by which a narrow call (request E2) can be refused, in the order of the checks.
+const NARROW_REFUSALS: [u64; 9] = [1, 2, 4, 5, 6, 20, 7, 8, 10];
+
+/// How a block is called, by turns: plain with eob 0, plain with another, live-row with an r that covers it.
+fn way(rng: &mut Rng, record: &Record, turn: usize) -> Way {
+    let (h, least) = (record.h, record.live_rows());
+    match turn % 3 {
+        0 => Way::Plain(0),
+        1 => Way::Plain(record.eob.max(1)),
+        _ => Way::Live(least + rng.below(h + 1 - least)),
+    }
+}
+
+/// An accepted narrow call that has a record. Now and then only one row is visible, and the stride is about the last one
+/// that can be doubled, or the last one there is.
+fn narrow_call(rng: &mut Rng, shape: Shape, turn: usize) -> BlockCall {
+    loop {
+        let record = record(rng, shape);
+        let mut call = BlockCall { way: way(rng, &record, turn), ..block_call(rng, &record).narrow() };
+        if rng.below(10) == 0 {
+            call.rows = 1;
+            call.stride = rng.pick(&[i32::MIN, -(1 << 30) - 1, -(1 << 30), (1 << 30) - 1, 1 << 30, i32::MAX]);
+        }
+        if words::has_record(&call) {
+            return call;
+        }
+    }
+}
+
+/// A small narrow call with damage that is answered by this number and has a record.
+fn narrow_damaged(rng: &mut Rng, shapes: &[Shape], number: u64) -> BlockCall {
+    loop {
+        let (shape, turn) = (rng.pick(shapes), rng.below(3));
+        let mut call = narrow_call(rng, shape, turn);
+        for _ in 0..1 + rng.below(2) {
+            damage_block(rng, &mut call);
+        }
+        // What the damage put in is brought to the width.
+        let call = call.narrow();
+        if words::has_record(&call) && call.wanted().0.number == number {
+            return call;
+        }
+    }
+}
+
+/// `count` accepted calls over all sizes and types, by each way in turn; then, of small blocks, `refused` damaged calls of
+/// every number that can occur, and as many that are accepted all the same.
+pub fn narrow_calls(rng: &mut Rng, count: usize, refused: usize) -> Vec<BlockCall> {
+    let mut shapes = block_shapes();
+    shapes.retain(|shape| shape.depth == 8);
+    let turns = (0..count).map(|at| (shapes[at % shapes.len()], at / shapes.len()));
+    let mut calls: Vec<BlockCall> = turns.map(|(shape, turn)| narrow_call(rng, shape, turn)).collect();
+    shapes.retain(|shape| shape.w * shape.h <= 64);
+    for number in NARROW_REFUSALS.into_iter().chain([0]) {
+        calls.extend((0..refused).map(|_| narrow_damaged(rng, &shapes, number)));
+    }
+    calls
 }
 
 /// The same call with something in it that is refused, or just not.

@@ -210,9 +210,7 @@ struct Sums {
 fn compare_block(rng: &mut Rng, shape: Shape, sums: &mut Sums) {
     let record = cases::record(rng, shape);
     let plain = cases::block_call(rng, &record);
-    let h = shape.h;
-    let live_rows = record.coeff.iter().enumerate().filter(|&(_, &v)| v != 0).map(|(p, _)| p % h + 1).max();
-    let least = live_rows.unwrap_or(1);
+    let (h, least) = (shape.h, record.live_rows());
     let ways = [plain.way, Way::Live(least + rng.below(h + 1 - least))];
     // Twice now and then: the first number that applies is the answer.
     let mut damaged = |call: &BlockCall, way: Way| {

@@ -32,6 +32,12 @@ impl Record {
         }
     }
 
+    /// The least r that covers the coefficients.
+    pub fn live_rows(&self) -> usize {
+        let live = self.coeff.iter().enumerate().filter(|&(_, &v)| v != 0);
+        live.map(|(p, _)| p % self.h + 1).max().unwrap_or(1)
+    }
+
     pub fn write(&self, out: &mut Vec<u8>) {
         for n in [self.w, self.h, self.txtp, self.depth, self.eob as usize] {
             write_number(out, n as u32);

@@ -16,6 +16,8 @@ pub mod itx;
 #[allow(dead_code)]
 mod itx_1d;
 pub mod shim;
+#[cfg(recorder)]
+pub mod words;
 
 /// The path by which `itx_1d.rs` names its clip.
 mod include {

@@ -4,6 +4,7 @@ use kernels::calls::PassCall;
 use kernels::cases::{self, Rng, Shape};
 use kernels::format::{write_number, Reader};
 use kernels::itx::Kind;
+use kernels::words::{next_call, put, put_answer, put_call, put_outcome};
 use std::env;
 use std::io::{self, Read, Write};
 use std::process::exit;
@@ -18,7 +19,12 @@ fn main() {
         ["passes-done"] => passes_done(&input()),
         ["blocks", seed, count, ref only @ ..] => blocks(number(seed), number(count), only),
         ["blocks-done"] => blocks_done(&input()),
-        _ => stop("usage: oracle passes SEED COUNT | passes-done | blocks SEED COUNT [NAME=NUMBER..] | blocks-done"),
+        ["blocks-8bpc", seed, count, refused] => blocks_8bpc(number(seed), number(count), number(refused)),
+        ["blocks-8bpc-done"] => blocks_8bpc_done(&input()),
+        _ => stop(
+            "usage: oracle passes SEED COUNT | passes-done | blocks SEED COUNT [NAME=NUMBER..] | blocks-done | \
+             blocks-8bpc SEED COUNT REFUSED | blocks-8bpc-done",
+        ),
     };
     if let Err(error) = io::stdout().write_all(&out) {
         stop(&format!("write failed: {error}"));
@@ -40,10 +46,6 @@ fn input() -> Vec<u8> {
         stop(&format!("read failed: {error}"));
     }
     bytes
-}
-
-fn put(out: &mut Vec<u8>, word: i32) {
-    out.extend(word.to_le_bytes());
 }
 
 fn passes(seed: u64, count: u64) -> Vec<u8> {
@@ -79,9 +81,7 @@ fn passes_done(bytes: &[u8]) -> Vec<u8> {
             max: m - 1,
         };
         let (answer, c) = call.wanted();
-        for word in [answer.number as i32, answer.place as i32, answer.mark.into()] {
-            put(&mut out, word);
-        }
+        put_answer(&mut out, answer);
         c.into_iter().for_each(|v| put(&mut out, v));
     }
     out
@@ -140,6 +140,23 @@ fn blocks_done(bytes: &[u8]) -> Vec<u8> {
                 break;
             }
         }
+    }
+    out
+}
+
+fn blocks_8bpc(seed: u64, count: u64, refused: u64) -> Vec<u8> {
+    let mut out = Vec::new();
+    for call in cases::narrow_calls(&mut Rng(seed), count as usize, refused as usize) {
+        put_call(&mut out, &call);
+    }
+    out
+}
+
+fn blocks_8bpc_done(mut left: &[u8]) -> Vec<u8> {
+    let mut out = Vec::new();
+    while !left.is_empty() {
+        let call = next_call(&mut left).unwrap_or_else(|| stop("there is no such record, or the input ends inside it"));
+        put_outcome(&mut out, &call);
     }
     out
 }
