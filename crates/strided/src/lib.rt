@@ -243,8 +243,8 @@ pub fn row_mut<'a>(dst: &'a mut [u16], view: View, w: usize, h: usize, y: usize)
 pub fn row_mut_8bpc<'a>(dst: &'a mut [u8], view: View, w: usize, h: usize, y: usize) -> &'a mut [u8]
     ensures { λ r. ⌜ IsPart Narrow (dst .entry) r (row-part Narrow (length (now (dst .entry))) view w h y) ⌝ }
 {
-    let found = lookup(Width::Narrow, dst.len(), view, w, h, y);
-    let from = found.from;
-    let end = from + found.size;
+    let part = lookup(Width::Narrow, dst.len(), view, w, h, y);
+    let from = part.from;
+    let end = from + part.size;
     &mut dst[from..end]
 }
