@@ -1,16 +1,17 @@
-// Runs the block files on its standard input and writes a line for each: what the run writes, in hexadecimal, and what it refuses. Each
-// file stands after its length, two bytes, low byte first; tools/block_cases.py makes them. Every file is run as a whole and byte by byte.
+// Runs the block files on its standard input and writes a line for each: what the run writes to standard output, in hexadecimal, and what it
+// writes to standard error, or "done" where that is nothing. Each file stands after its length, two bytes, low byte first; tools/block_cases.py
+// makes them. Every file is run as a whole and byte by byte.
 ghost use mathlib.Core.Path.{_≡_};
 ghost use Prim.Native.Nat.{_≤_, _<_};
 ghost use lib.ListN.{length};
-use blockfile::run::Turn;
-use blockfile::run::step;
+use jobs::step::Job;
+use jobs::step::Turn;
+use jobs::step::step;
 
-// How many bytes were written, the number of what was read last, and its refusal; 0 if there is none.
+// How many bytes were written to either output; none to both if the run did not end.
 struct Ran {
     put: usize,
-    record: u64,
-    refusal: u8,
+    told: usize,
 }
 
 fn least(a: usize, b: usize) -> usize
@@ -23,49 +24,52 @@ fn least(a: usize, b: usize) -> usize
 }
 
 // Runs a file that arrives in pieces.
-fn run(file: &[u8], piece: usize, output: &mut [u8]) -> Ran
-    requires { ⌜ 16384 ≡ length (now output) ⌝ }
-    ensures { λ r. ⌜ r .put ≤ 16384 ⌝ }
+fn run(file: &[u8], piece: usize, output: &mut [u8], error: &mut [u8]) -> Ran
+    requires { ⌜ (16384 ≡ length (now output)) × (256 ≡ length (now error)) ⌝ }
+    ensures { λ r. ⌜ (r .put ≤ 16384) × (r .told ≤ 256) ⌝ }
 {
     let mut at: usize = 0;
     let mut have: usize = 0;
     let mut put: usize = 0;
+    let mut told: usize = 0;
+    let mut version: u32 = 1;
     let mut record: u64 = 0;
     let mut turns: u32 = 65536;
     while turns > 0 {
         turns -= 1;
-        if 6119 < put {
-            break;
-        }
-        let turn = step(&file[..have], at, have == file.len(), record, output, put);
+        let is_last = have == file.len();
+        let turn = step(
+            Job::Blocks,
+            &file[..have],
+            at,
+            is_last,
+            version,
+            record,
+            output,
+            put,
+            error,
+            told,
+        );
         match turn {
-            Turn::Wrote { next, put: end } => {
+            Turn::Wrote {
+                version: v,
+                next,
+                put: p,
+                told: t,
+            } => {
+                version = v;
                 at = next;
-                put = end;
+                put = p;
+                told = t;
                 record += 1;
             }
+            // No file here has as much to write.
+            Turn::Full => break,
             Turn::More => have += least(piece, file.len() - have),
-            Turn::End => {
-                return Ran {
-                    put,
-                    record,
-                    refusal: 0,
-                };
-            }
-            Turn::Refused(k) => {
-                return Ran {
-                    put,
-                    record,
-                    refusal: k,
-                };
-            }
+            Turn::Stop { put: p, told: t } => return Ran { put: p, told: t },
         }
     }
-    Ran {
-        put: 0,
-        record: 0,
-        refusal: 255,
-    }
+    Ran { put: 0, told: 0 }
 }
 
 fn digit(n: u8) -> u8
@@ -87,33 +91,30 @@ fn show(bytes: &[u8]) {
     }
 }
 
-fn tell(ran: Ran) {
-    if ran.refusal == 0 {
-        io::write_all(1, b" done\n");
+fn tell(output: &[u8], error: &[u8]) {
+    show(output);
+    io::write_all(1, b" ");
+    if error.len() == 0 {
+        io::write_all(1, b"done\n");
         return;
     }
-    io::write_all(1, b" refused ");
-    io::print_decimal(1, ran.record);
-    io::write_all(1, b" ");
-    io::print_decimal(1, ran.refusal as u64);
-    io::write_all(1, b"\n");
-}
-
-fn is_same(a: Ran, b: Ran) -> bool {
-    a.put == b.put && a.record == b.record && a.refusal == b.refusal
+    io::write_all(1, error);
 }
 
 fn run_case(file: &[u8]) {
     let mut whole = [0u8; 16384];
     let mut pieces = [0u8; 16384];
-    let a = run(file, file.len(), &mut whole);
-    let b = run(file, 1, &mut pieces);
+    let mut whole_error = [0u8; 256];
+    let mut pieces_error = [0u8; 256];
+    let a = run(file, file.len(), &mut whole, &mut whole_error);
+    let b = run(file, 1, &mut pieces, &mut pieces_error);
     let n = a.put;
-    let m = b.put;
-    if is_same(a, b) {
-        if check::same(&whole[..n], &pieces[..m]) {
-            show(&whole[..n]);
-            tell(a);
+    let m = a.told;
+    let k = b.put;
+    let l = b.told;
+    if check::same(&whole[..n], &pieces[..k]) {
+        if check::same(&whole_error[..m], &pieces_error[..l]) {
+            tell(&whole[..n], &whole_error[..m]);
             return;
         }
     }

@@ -1,12 +1,15 @@
 -- Some files, by computing.
 use mathlib.Core.Path.{_≡_, refl}
-use mathlib.Core.List.{[], _∷_, _++_}
+use mathlib.Core.List.{List, [], _∷_, _++_}
+use Prim.Native.Nat.{ℕ}
+use lib.Dec.{eqb}
 use lib.IntN.{pos, negsuc}
 use lib.ListN.{replicate}
 use Rattle.blockfile.specs.Read.{got, refused}
 use Rattle.blockfile.specs.Number.{readNumber}
 use Rattle.blockfile.specs.Zigzag.{zig}
-use Rattle.blockfile.specs.File.{all, before, unknown, file, readBlocks}
+use Rattle.blockfile.specs.Record.{form}
+use Rattle.blockfile.specs.File.{all, before, unknown, file, readFile, readBlocks}
 
 -- the largest number, one more, and a fifth group with its top bit set, where 16 comes before 17
 largest : readNumber (255 ∷ 255 ∷ 255 ∷ 255 ∷ 15 ∷ []) ≡ got 4294967295 []
@@ -35,7 +38,7 @@ empty : readBlocks [] ≡ unknown 15
 unfolding readBlocks
 empty = refl
 
-not-1 : readBlocks (2 ∷ 4 ∷ []) ≡ unknown 18
+not-1 : readBlocks (3 ∷ 4 ∷ []) ≡ unknown 18
 unfolding readBlocks
 not-1 = refl
 
@@ -63,7 +66,7 @@ large-pixel = refl
 -- document 01's 4x4 DCT_DCT with first coefficient 64 and eob 0; 64 is written 128, which takes two groups
 known : readBlocks (1 ∷ 4 ∷ 4 ∷ 0 ∷ 8 ∷ 0 ∷ 128 ∷ 1 ∷ (replicate 15 0 ++ replicate 16 100))
     ≡ file 1 (all (record {
-      head = record { w = 4; h = 4; txtp = 0; depth = 8; eob = 0 };
+      head = record { w = 4; h = 4; txtp = 0; depth = 8; announced = 0 };
       coefficients = pos 64 ∷ replicate 15 (pos 0);
       pixels = replicate 16 100;
     } ∷ []))

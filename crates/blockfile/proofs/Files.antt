@@ -1,18 +1,19 @@
 -- Laws of a file: reader and writer are inverse both ways, a file has one spelling, and what stands before a refusal.
 use mathlib.Core.Path.{_≡_, refl, sym, ap, _∙_, subst}
-use mathlib.Core.Bool.{Bool, true}
+use mathlib.Core.Bool.{Bool, true, false, _||_}
 use mathlib.Core.List.{List, [], _∷_, _++_, append-assoc}
 use Prim.Native.Nat.{ℕ, zero, suc, _+_, _≤_, _<_}
 use native.Mathlib.Omega.{arith}
+use lib.Dec.{eqb}
 use lib.ListN.{length, length-append}
 use borrow.Author.Tests.{eqb-true}
 use Rattle.blockfile.specs.Read.{Read, got, refused}
 use Rattle.blockfile.specs.Form.{Form, number, Each, writeEach}
-use Rattle.blockfile.specs.Record.{Block, block, Plain}
-use Rattle.blockfile.specs.File.{Records, all, before, after, onward, recordsIn, records, unknown, file, first, opened, readFile, writeFile, is-1, readBlocks, writeBlocks}
+use Rattle.blockfile.specs.Record.{Block, form, Plain}
+use Rattle.blockfile.specs.File.{Records, all, before, after, onward, recordsIn, records, unknown, file, first, opened, readFile, writeFile, known, readBlocks, writeBlocks}
 use Rattle.blockfile.proofs.Forms.{Lawful, number-lawful, onlyIf-lawful, each-map}
 use Rattle.blockfile.proofs.Rooms.{Some}
-use Rattle.blockfile.proofs.Records.{block-lawful, some-block, writable, plain}
+use Rattle.blockfile.proofs.Records.{form-lawful, some-form, writable, plain}
 
 all-records : {R : Type 0} {rs ss : List R} → all rs ≡ all ss → rs ≡ ss
 all-records e = cc
@@ -167,51 +168,54 @@ file-records e = cc
 never-file {ℓ} : {R : Type 0} {X : Type ℓ} {v k : ℕ} {m : Records R} → file v m ≡ unknown k → X
 never-file e = let z : _≡_ {A = ℕ} 0 1 = cc in absurd (omega arith)
 
-pub first-lawful : (known : ℕ → Bool) → Lawful (first known) (λ v. (v < 4294967296) × (known v ≡ true))
+pub first-lawful : (ok : ℕ → Bool) → Lawful (first ok) (λ v. (v < 4294967296) × (ok v ≡ true))
 unfolding first
-first-lawful known = onlyIf-lawful known 18 number-lawful
+first-lawful ok = onlyIf-lawful ok 18 number-lawful
 
-module _ {R : Type 0} (known : ℕ → Bool) {form : ℕ → Form R} {W : ℕ → R → Type 0} (l : (v : ℕ) → Lawful (form v) (W v)) (some : (v : ℕ) → Some (form v)) where
+module _ {R : Type 0} (ok : ℕ → Bool) {c : ℕ → Form R} {W : ℕ → R → Type 0} (l : (v : ℕ) → Lawful (c v) (W v)) (some : (v : ℕ) → Some (c v)) where
   abbrev pub FileWritable : ℕ → List R → Type 0
-  FileWritable v rs = ((v < 4294967296) × (known v ≡ true)) × Each (W v) (length rs) rs
+  FileWritable v rs = ((v < 4294967296) × (ok v ≡ true)) × Each (W v) (length rs) rs
 
-  pub file-back : (v : ℕ) (rs : List R) → FileWritable v rs → readFile known form (writeFile known form v rs) ≡ file v (all rs)
+  pub file-back : (v : ℕ) (rs : List R) → FileWritable v rs → readFile ok c (writeFile ok c v rs) ≡ file v (all rs)
   unfolding readFile first writeFile opened
-  file-back v rs h = rw (first-lawful known .back v (writeEach (form v) rs) (h .0), records-back (l v) (some v) 1 rs (h .1))
+  file-back v rs h = rw (first-lawful ok .back v (writeEach (c v) rs) (h .0), records-back (l v) (some v) 1 rs (h .1))
 
-  pub file-only : (bs : List ℕ) (v : ℕ) (rs : List R) → readFile known form bs ≡ file v (all rs)
-      → (bs ≡ writeFile known form v rs) × FileWritable v rs
+  pub file-only : (bs : List ℕ) (v : ℕ) (rs : List R) → readFile ok c bs ≡ file v (all rs)
+      → (bs ≡ writeFile ok c v rs) × FileWritable v rs
   unfolding readFile first writeFile opened records
-  file-only bs v rs e = go (first known .read bs) refl e
+  file-only bs v rs e = go (first ok .read bs) refl e
     where
-      go : (r : Read ℕ) → first known .read bs ≡ r → opened known form r ≡ file v (all rs) → (bs ≡ writeFile known form v rs) × FileWritable v rs
+      go : (r : Read ℕ) → first ok .read bs ≡ r → opened ok c r ≡ file v (all rs) → (bs ≡ writeFile ok c v rs) × FileWritable v rs
       go (got u rest) q e =
           let uv = file-first e in
-          let one = first-lawful known .only bs v rest (q ∙ ap (λ (w : ℕ). got w rest) uv) in
-          let others = records-only (l v) (some v) (length rest) 1 rest rs (ap (λ (w : ℕ). records (form w) 1 rest) (sym uv) ∙ file-records e) in
+          let one = first-lawful ok .only bs v rest (q ∙ ap (λ (w : ℕ). got w rest) uv) in
+          let others = records-only (l v) (some v) (length rest) 1 rest rs (ap (λ (w : ℕ). records (c w) 1 rest) (sym uv) ∙ file-records e) in
           (one .0 ∙ ap (λ r. number .write v ++ r) (others .0), (one .1, others .1))
       go (refused k) q e = never-file (sym e)
 
   -- two byte lists that read as the same file are equal
-  pub file-one-spelling : (xs ys : List ℕ) (v : ℕ) (rs : List R) → readFile known form xs ≡ file v (all rs) → readFile known form ys ≡ file v (all rs) → xs ≡ ys
+  pub file-one-spelling : (xs ys : List ℕ) (v : ℕ) (rs : List R) → readFile ok c xs ≡ file v (all rs) → readFile ok c ys ≡ file v (all rs) → xs ≡ ys
   file-one-spelling xs ys v rs e f = file-only xs v rs e .0 ∙ sym (file-only ys v rs f .0)
 
--- ---- E1's files
+-- ---- E1's and E11's files
+
+known-small : (v : ℕ) → known v ≡ true → v < 4294967296
+known-small v e = omega (arith, eqb-true v 1 e)
 
 -- a file of blocks that it can hold is read back
-pub blocks-back : (bs : List Block) → Each Plain (length bs) bs → readBlocks (writeBlocks bs) ≡ file 1 (all bs)
+pub blocks-back : (v : ℕ) (bs : List Block) → known v ≡ true → Each (Plain v) (length bs) bs → readBlocks (writeBlocks v bs) ≡ file v (all bs)
 unfolding readBlocks writeBlocks
-blocks-back bs h = file-back is-1 (λ v. block-lawful) (λ v. some-block) 1 bs ((omega arith, refl), each-map writable (length bs) bs h)
+blocks-back v bs k h = file-back known form-lawful some-form v bs ((known-small v k, k), each-map (writable v) (length bs) bs h)
 
 -- an accepted file is what is written of its blocks, and they are such blocks
-pub blocks-only : (xs : List ℕ) (v : ℕ) (bs : List Block) → readBlocks xs ≡ file v (all bs) → (v ≡ 1) × (xs ≡ writeBlocks bs) × Each Plain (length bs) bs
+pub blocks-only : (xs : List ℕ) (v : ℕ) (bs : List Block) → readBlocks xs ≡ file v (all bs)
+    → (known v ≡ true) × (xs ≡ writeBlocks v bs) × Each (Plain v) (length bs) bs
 unfolding readBlocks writeBlocks
 blocks-only xs v bs e =
-    let f = file-only is-1 (λ v. block-lawful) (λ v. some-block) xs v bs e in
-    let one : v ≡ 1 = eqb-true v 1 (f .1 .0 .1) in
-    (one, f .0 ∙ ap (λ (u : ℕ). writeFile is-1 (λ v. block) u bs) one, each-map plain (length bs) bs (f .1 .1))
+    let f = file-only known form-lawful some-form xs v bs e in
+    (f .1 .0 .1, f .0, each-map (plain v) (length bs) bs (f .1 .1))
 
 -- two byte lists that read as the same file are equal
 pub blocks-one-spelling : (xs ys : List ℕ) (v : ℕ) (bs : List Block) → readBlocks xs ≡ file v (all bs) → readBlocks ys ≡ file v (all bs) → xs ≡ ys
 unfolding readBlocks
-blocks-one-spelling = file-one-spelling is-1 (λ v. block-lawful) (λ v. some-block)
+blocks-one-spelling = file-one-spelling known form-lawful some-form

@@ -1,20 +1,20 @@
 -- Laws of a record: it is lawful, takes a byte at least and 10265 at most, and can be written just where it is `Plain`.
 use mathlib.Core.Path.{_≡_, refl, sym}
-use mathlib.Core.Bool.{true, true≢false}
+use mathlib.Core.Bool.{Bool, true, false, cond, _&&_, true≢false}
 use Prim.Native.Nat.{ℕ, _*_, _≤_, _<_}
 use native.Mathlib.Omega.{arith}
-use native.Mathlib.Nat.{le-refl, le-trans, mul-le-mul}
-use lib.Dec.{leb}
+use native.Mathlib.Nat.{le-refl, le-trans, mul-le-mul, mul-le-mul-right, mul-comm}
+use lib.Dec.{eqb, leb}
 use lib.IntN.{ℤ}
 use lib.ListN.{length, length-append}
 use borrow.Author.Tests.{leb-true, le-leb}
 use Rattle.whole.specs.Checks.{Check, accept, refuse}
 use Rattle.levels.specs.Plans.{shift-of}
-use Rattle.levels.proofs.Sizes.{shift-sided, side-bounds}
+use Rattle.levels.proofs.Sizes.{Sided, shift-sided, side-bounds}
 use Rattle.strided.specs.Planes.{accepted}
 use Rattle.blockfile.specs.Zigzag.{zig, zag}
 use Rattle.blockfile.specs.Form.{Form, number, followed, Each}
-use Rattle.blockfile.specs.Record.{sized, upTo, coefficient, pixel, size, Block, area, toHead, fromHead, toBlock, fromBlock, afterSize, headOf, samplesOf, recordOf, eob, block, Plain}
+use Rattle.blockfile.specs.Record.{sized, upTo, coefficient, pixel, size, Block, area, toHead, fromHead, toBlock, fromBlock, afterSize, headOf, samplesOf, recordOf, announces, fifth, count, form, Plain}
 use Rattle.blockfile.specs.declared.record.Head.{Head}
 use Rattle.blockfile.proofs.Numbers.{number-short}
 use Rattle.blockfile.proofs.Zigzags.{zag-zig, zig-zag, zig-fits, fits-zig}
@@ -23,13 +23,16 @@ use Rattle.blockfile.proofs.Rooms.{Room, more-room, number-room, onlyIf
 
 -- ---- sizes
 
-pub sides-most : (w h : ℕ) → sized (w, h) ≡ true → (w ≤ 32) × (h ≤ 32)
+pub sides : (w h : ℕ) → sized (w, h) ≡ true → Sided w × Sided h
 unfolding sized
-sides-most w h = go (shift-of w h) refl
+sides w h = go (shift-of w h) refl
   where
-    go : (c : Check ℕ) → shift-of w h ≡ c → accepted c ≡ true → (w ≤ 32) × (h ≤ 32)
-    go (accept s) is e = let sides = shift-sided w h s is in (side-bounds w (sides .0) .1, side-bounds h (sides .1) .1)
+    go : (c : Check ℕ) → shift-of w h ≡ c → accepted c ≡ true → Sided w × Sided h
+    go (accept s) is e = shift-sided w h s is
     go (refuse n i) is e = absurd (true≢false (sym e))
+
+pub sides-most : (w h : ℕ) → sized (w, h) ≡ true → (w ≤ 32) × (h ≤ 32)
+sides-most w h e = let s = sides w h e in (side-bounds w (s .0) .1, side-bounds h (s .1) .1)
 
 pub area-most : (h : Head) → sized (h .w, h .h) ≡ true → area h ≤ 1024
 area-most h e =
@@ -48,7 +51,7 @@ abbrev Sized : ℕ × ℕ → Type 0
 Sized s = (Below (s .0) × Below (s .1)) × (sized s ≡ true)
 
 abbrev HeadWith : (ℕ × ℕ → ℕ → Type 0) → Head → Type 0
-HeadWith F h = Sized (h .w, h .h) × (Below (h .txtp) × (Below (h .depth) × F (h .w, h .h) (h .eob)))
+HeadWith F h = Sized (h .w, h .h) × (Below (h .txtp) × (Below (h .depth) × F (h .w, h .h) (h .announced)))
 
 abbrev BlockWith : (ℕ × ℕ → ℕ → Type 0) → (Head → ℕ) → Block → Type 0
 BlockWith F count b =
@@ -134,46 +137,72 @@ unfolding recordOf
 some-record fifth count =
     some-called (followed (headOf fifth) (samplesOf count)) toBlock fromBlock (some-followed (headOf fifth) (samplesOf count) (some-head fifth))
 
--- ---- E1's record
+-- ---- a record of either version
 
-abbrev pub Writable : Block → Type 0
-Writable = BlockWith (λ s. UpTo 2147483647) area
+pub fifth-lawful : (v : ℕ) (s : ℕ × ℕ) → Lawful (fifth v s) (λ n. Below n × (announces v (s .1) n ≡ true))
+unfolding fifth
+fifth-lawful v s = onlyIf-lawful (announces v (s .1)) (cond (eqb v 2) 5 16) number-lawful
 
-pub eob-lawful : (s : ℕ × ℕ) → Lawful (eob s) (UpTo 2147483647)
-unfolding eob
-eob-lawful s = upTo-lawful 2147483647 16
+not-15 : (t : Bool) → _≡_ {A = ℕ} (cond t 5 16) 15 → ⊥
+not-15 true e = omega arith
+not-15 false e = omega arith
 
-pub block-lawful : Lawful block Writable
-unfolding block
-block-lawful = record-lawful area eob-lawful
+fifth-room : (v : ℕ) (s : ℕ × ℕ) → Room (fifth v s) (λ n. Below n × (announces v (s .1) n ≡ true)) 5
+unfolding fifth
+fifth-room v s = onlyIf-room (announces v (s .1)) (cond (eqb v 2) 5 16) 5 (not-15 (eqb v 2)) number-room
 
-pub block-room : Room block Writable 10265
-unfolding block eob
-block-room = record-room area eob-lawful (λ s. upTo-room 2147483647 16 (λ e. omega arith)) (λ h w. le-refl (area h))
+pub both : (s t : Bool) → s && t ≡ true → (s ≡ true) × (t ≡ true)
+both true true e = (refl, refl)
+both true false e = (refl, e)
+both false true e = (e, refl)
+both false false e = (e, e)
 
-pub some-block : Some block
-unfolding block
-some-block = some-record eob area
+-- no more coefficients than pixels
+pub count-most : (v : ℕ) (h : Head) → announces v (h .h) (h .announced) ≡ true → count v h ≤ area h
+count-most v h = go (eqb v 2)
+  where
+    go : (t : Bool) → cond t (leb 1 (h .announced) && leb (h .announced) (h .h)) (leb (h .announced) 2147483647) ≡ true → cond t (h .announced * h .w) (area h) ≤ area h
+    go true e =
+        let l = leb-true (h .announced) (h .h) (both (leb 1 (h .announced)) (leb (h .announced) (h .h)) e .1) in
+        rw (mul-comm (h .w) (h .h)) (mul-le-mul-right (h .w) l)
+    go false e = le-refl (area h)
 
-pub writable : (b : Block) → Plain b → Writable b
-writable b p =
-    let s = sides-most (b .head .w) (b .head .h) (p .size) in (
-      (((omega arith, omega arith), p .size), (p .txtp, (p .depth, (omega (arith, p .eob), le-leb (b .head .eob) 2147483647 (p .eob))))),
-      (
-        each-map (λ v f. zig-fits v f) (area (b .head)) (b .coefficients) (p .coefficients),
-        each-map (λ n f. (omega arith, le-leb n 65535 f)) (area (b .head)) (b .pixels) (p .pixels),
-      ),
-    )
+module _ (v : ℕ) where
+  abbrev pub Writable : Block → Type 0
+  Writable = BlockWith (λ s n. Below n × (announces v (s .1) n ≡ true)) (count v)
 
-pub plain : (b : Block) → Writable b → Plain b
-plain b w = record {
-  size = w .0 .0 .1;
-  txtp = w .0 .1 .0;
-  depth = w .0 .1 .1 .0;
-  eob = leb-true (b .head .eob) 2147483647 (w .0 .1 .1 .1 .1);
-  coefficients = each-map (λ v f. fits-zig v f) (area (b .head)) (b .coefficients) (w .1 .0);
-  pixels = each-map (λ n f. leb-true n 65535 (f .1)) (area (b .head)) (b .pixels) (w .1 .1);
-}
+  pub form-lawful : Lawful (form v) Writable
+  unfolding form
+  form-lawful = record-lawful (count v) (fifth-lawful v)
+
+  pub form-room : Room (form v) Writable 10265
+  unfolding form
+  form-room = record-room (count v) (fifth-lawful v) (fifth-room v) (λ h w. count-most v h (w .1 .1 .1 .1))
+
+  pub some-form : Some (form v)
+  unfolding form
+  some-form = some-record (fifth v) (count v)
+
+  pub writable : (b : Block) → Plain v b → Writable b
+  writable b p =
+      let s = sides-most (b .head .w) (b .head .h) (p .size) in (
+        (((omega arith, omega arith), p .size), (p .txtp, (p .depth, (p .announced, p .allowed)))),
+        (
+          each-map (λ x f. zig-fits x f) (count v (b .head)) (b .coefficients) (p .coefficients),
+          each-map (λ n f. (omega arith, le-leb n 65535 f)) (area (b .head)) (b .pixels) (p .pixels),
+        ),
+      )
+
+  pub plain : (b : Block) → Writable b → Plain v b
+  plain b w = record {
+    size = w .0 .0 .1;
+    txtp = w .0 .1 .0;
+    depth = w .0 .1 .1 .0;
+    announced = w .0 .1 .1 .1 .0;
+    allowed = w .0 .1 .1 .1 .1;
+    coefficients = each-map (λ x f. fits-zig x f) (count v (b .head)) (b .coefficients) (w .1 .0);
+    pixels = each-map (λ n f. leb-true n 65535 (f .1)) (area (b .head)) (b .pixels) (w .1 .1);
+  }
 
 -- ---- how long what is written can be, whatever is written
 
@@ -185,8 +214,8 @@ pub pixel-short : (n : ℕ) → length (pixel .write n) ≤ 5
 unfolding pixel
 pixel-short n = number-short n
 
-pub head-short : (h : Head) → length (headOf eob .write h) ≤ 25
-unfolding headOf size eob
+pub head-short : (h : Head) → length (headOf (fifth 1) .write h) ≤ 25
+unfolding headOf size fifth
 head-short h =
     simp length-append
-    (omega (arith, number-short (h .w), number-short (h .h), number-short (h .txtp), number-short (h .depth), number-short (h .eob)))
+    (omega (arith, number-short (h .w), number-short (h .h), number-short (h .txtp), number-short (h .depth), number-short (h .announced)))

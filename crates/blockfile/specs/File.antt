@@ -6,7 +6,7 @@ use lib.Dec.{eqb}
 use lib.ListN.{length}
 use Rattle.blockfile.specs.Read.{Read, got, refused}
 use Rattle.blockfile.specs.Form.{Form, number, onlyIf, writeEach}
-use Rattle.blockfile.specs.Record.{Block, block}
+use Rattle.blockfile.specs.Record.{Block, form}
 
 -- all records to the end; or those before the refused one, its number, and the refusal's
 pub data Records (R : Type 0) : Type 0 where
@@ -40,34 +40,34 @@ pub data File (R : Type 0) : Type 0 where
   unknown : ℕ → File R
   file : ℕ → Records R → File R
 
--- `known` says which first numbers there are: "18 first number not 1"
+-- a test says which first numbers there are: "18 first number not 1"
 unfoldable pub first : (ℕ → Bool) → Form ℕ
 unfolding onlyIf number
-first known = onlyIf number known 18
+first ok = onlyIf number ok 18
 
--- `form` says what records follow a first number
-module _ {R : Type 0} (known : ℕ → Bool) (form : ℕ → Form R) where
+-- `records-of` says what records follow a first number
+module _ {R : Type 0} (first-numbers : ℕ → Bool) (records-of : ℕ → Form R) where
   unfoldable pub opened : Read ℕ → File R
   unfolding records
-  opened (got v rest) = file v (records (form v) 1 rest)
+  opened (got v rest) = file v (records (records-of v) 1 rest)
   opened (refused k) = unknown k
 
   unfoldable pub readFile : List ℕ → File R
   unfolding first opened
-  readFile bs = opened (first known .read bs)
+  readFile bs = opened (first first-numbers .read bs)
 
   unfoldable pub writeFile : ℕ → List R → List ℕ
   unfolding number writeEach
-  writeFile v rs = number .write v ++ writeEach (form v) rs
+  writeFile v rs = number .write v ++ writeEach (records-of v) rs
 
--- E1's files
-abbrev pub is-1 : ℕ → Bool
-is-1 v = eqb v 1
+-- E1's files: "first number not 1"
+abbrev pub known : ℕ → Bool
+known v = eqb v 1
 
 unfoldable pub readBlocks : List ℕ → File Block
-unfolding readFile block
-readBlocks = readFile is-1 (λ v. block)
+unfolding readFile form
+readBlocks = readFile known form
 
-unfoldable pub writeBlocks : List Block → List ℕ
-unfolding writeFile
-writeBlocks bs = writeFile is-1 (λ v. block) 1 bs
+unfoldable pub writeBlocks : ℕ → List Block → List ℕ
+unfolding writeFile form
+writeBlocks = writeFile known form

@@ -1,8 +1,10 @@
 // A record of a block file: its head, its coefficients and its pixels.
 ghost use mathlib.Core.Path.{_≡_};
-ghost use Prim.Native.Nat.{_+_, _≤_};
+ghost use mathlib.Core.Bool.{true, cond};
+ghost use Prim.Native.Nat.{_+_, _*_, _≤_};
+ghost use lib.Dec.{eqb};
 ghost use lib.ListN.{length};
-ghost use Rattle.blockfile.specs.Record.{sized, headOf, eob, block};
+ghost use Rattle.blockfile.specs.Record.{sized, announces, count, headOf, fifth, form};
 ghost use Rattle.blockfile.specs.Answer.{headAt, RecordAt, Put, headRefusal};
 use crate::number::Number;
 use crate::number::read_number;
@@ -22,7 +24,7 @@ pub struct Head {
     pub h: u32,
     pub txtp: u32,
     pub depth: u32,
-    pub eob: u32,
+    pub announced: u32,
 }
 
 // A head and the place after it, or the number of a refusal.
@@ -58,9 +60,40 @@ fn is_sized(w: u32, h: u32) -> bool
     true
 }
 
-// The head at the place `at`.
-pub fn read_head(s: &[u8], at: usize) -> HeadRead
-    ensures { λ r. ⌜ r ≡ headAt (now (s .entry)) at ⌝ }
+// Whether a block of height h can announce n: an eob, or live rows in version 2.
+fn can_announce(version: u32, h: u32, n: u32) -> bool
+    ensures { λ r. ⌜ r ≡ announces version h n ⌝ }
+{
+    if version == 2 {
+        return (1 <= n) & (n <= h);
+    }
+    n <= 2147483647
+}
+
+// The number of the refusal of what it cannot announce.
+fn announce_refusal(version: u32) -> u8
+    ensures { λ r. ⌜ r ≡ cond (eqb version 2) 5 16 ⌝ }
+{
+    if version == 2 {
+        return 5;
+    }
+    16
+}
+
+// How many coefficients follow a head: all, or those of the live rows in version 2.
+pub fn coefficient_count(version: u32, w: u32, h: u32, n: u32) -> u32
+    requires { ⌜ (w * h ≤ 1024) × (announces version h n ≡ true) ⌝ }
+    ensures { λ r. ⌜ (r ≡ cond (eqb version 2) (n * w) (w * h)) × (r ≤ 1024) ⌝ }
+{
+    if version == 2 {
+        return n * w;
+    }
+    w * h
+}
+
+// The head at the place `at`, in a file that begins with `version`.
+pub fn read_head(s: &[u8], at: usize, version: u32) -> HeadRead
+    ensures { λ r. ⌜ r ≡ headAt version (now (s .entry)) at ⌝ }
 {
     let first = read_number(s, at);
     let Number::Got { value: w, next: a } = first else {
@@ -85,8 +118,8 @@ pub fn read_head(s: &[u8], at: usize) -> HeadRead
     let Number::Got { value: z, next } = fifth else {
         return HeadRead::Refused(refusal(fifth));
     };
-    if 2147483647 < z {
-        return HeadRead::Refused(16);
+    if !can_announce(version, h, z) {
+        return HeadRead::Refused(announce_refusal(version));
     }
     HeadRead::Got {
         head: Head {
@@ -94,31 +127,39 @@ pub fn read_head(s: &[u8], at: usize) -> HeadRead
             h,
             txtp: t,
             depth: d,
-            eob: z,
+            announced: z,
         },
         next,
     }
 }
 
 // The record at the place `at`: its coefficients and pixels go to the fronts of two slices. On a refusal these hold what was read before it.
-pub fn read_record(s: &[u8], at: usize, coefficients: &mut [i32], pixels: &mut [u16]) -> Found
+pub fn read_record(
+    s: &[u8],
+    at: usize,
+    version: u32,
+    coefficients: &mut [i32],
+    pixels: &mut [u16],
+) -> Found
     requires { ⌜ (1024 ≤ length (now coefficients)) × (1024 ≤ length (now pixels)) ⌝ }
-    ensures { λ r. ⌜ RecordAt (now (s .entry)) at (now (coefficients .entry)) (now (pixels .entry)) (now (coefficients .exit)) (now (pixels .exit)) r ⌝ }
+    ensures { λ r. ⌜ RecordAt version (now (s .entry)) at (now (coefficients .entry)) (now (pixels .entry)) (now (coefficients .exit)) (now (pixels .exit)) r ⌝ }
 {
     if s.len() <= at {
         return Found::End;
     }
-    let start = read_head(s, at);
+    let start = read_head(s, at, version);
     let HeadRead::Got { head, next } = start else {
         return Found::Refused(head_refusal(start));
     };
     let w = head.w;
     let h = head.h;
-    let n = (w * h) as usize;
-    let middle = read_coefficients(s, next, n, coefficients);
+    let z = head.announced;
+    let count = coefficient_count(version, w, h, z) as usize;
+    let middle = read_coefficients(s, next, count, coefficients);
     let Place::At(p) = middle else {
         return Found::Refused(samples::refusal(middle));
     };
+    let n = (w * h) as usize;
     let end = read_pixels(s, p, n, pixels);
     let Place::At(q) = end else {
         return Found::Refused(samples::refusal(end));
@@ -129,13 +170,13 @@ pub fn read_record(s: &[u8], at: usize, coefficients: &mut [i32], pixels: &mut [
 // Writes a head at the place `at`, where 25 bytes have room, and answers the place after it.
 pub fn write_head(out: &mut [u8], at: usize, head: Head) -> usize
     requires { ⌜ at + 25 ≤ length (now out) ⌝ }
-    ensures { λ r. ⌜ Put (headOf eob .write head) (now (out .entry)) at (now (out .exit)) r ⌝ }
+    ensures { λ r. ⌜ Put (headOf (fifth 1) .write head) (now (out .entry)) at (now (out .exit)) r ⌝ }
 {
     let a = write_number(out, at, head.w);
     let b = write_number(out, a, head.h);
     let c = write_number(out, b, head.txtp);
     let d = write_number(out, c, head.depth);
-    write_number(out, d, head.eob)
+    write_number(out, d, head.announced)
 }
 
 // Writes a record at the place `at` and answers the place after it. A record takes 10265 bytes at most.
@@ -147,7 +188,7 @@ pub fn write_record(
     pixels: &[u16],
 ) -> usize
     requires { ⌜ (at + 10265 ≤ length (now out)) × (length (now coefficients) ≤ 1024) × (length (now pixels) ≤ 1024) ⌝ }
-    ensures { λ r. ⌜ Put (block .write (record { head = head; coefficients = now (coefficients .entry); pixels = now (pixels .entry) })) (now (out .entry)) at (now (out .exit)) r ⌝ }
+    ensures { λ r. ⌜ Put (form 1 .write (record { head = head; coefficients = now (coefficients .entry); pixels = now (pixels .entry) })) (now (out .entry)) at (now (out .exit)) r ⌝ }
 {
     let p = write_head(out, at, head);
     let q = write_coefficients(out, p, coefficients);

@@ -1,17 +1,26 @@
 -- Demand 3 in one statement: whatever is announced of an accepted block, the outcome is the same.
-use mathlib.Core.Path.{_≡_, sym, ap, _∙_, subst}
-use Prim.Native.Nat.{suc}
+use mathlib.Core.Path.{_≡_, refl, sym, ap, _∙_, subst}
+use mathlib.Core.Bool.{not, _&&_}
+use mathlib.Core.Option.{none}
+use Prim.Native.Nat.{ℕ, suc, _+_, _*_, _≤_}
+use native.Mathlib.Omega.{arith}
+use borrow.Author.Tests.{le-leb}
 use lib.IntN.{pos}
-use Rattle.whole.proofs.Checks.{same-accept}
+use Rattle.whole.specs.Lists.{at}
+use Rattle.whole.specs.Checks.{Check, accept, refuse, then, when, judged}
+use Rattle.whole.proofs.Checks.{same-accept, Alike, alike}
 use Rattle.itx_1d.specs.declared.Kind.{Kind}
 use Rattle.itx_1d.specs.declared.Kind.the-variants.{Dct}
 use Rattle.bitdepth.specs.declared.Depth.{Depth}
 use Rattle.levels.specs.declared.Plan.{Plan}
-use Rattle.levels.specs.Plans.{kinds-of}
-use Rattle.levels.proofs.Sizes.{plan-of}
-use Rattle.itx.specs.Calls.{Block, Call, plain, outcome}
+use Rattle.levels.specs.Plans.{kinds-of, plan}
+use Rattle.levels.proofs.Sizes.{plan-of, plan-sided, side-bounds}
+use Rattle.coefs.specs.Coefs.{Covers}
+use Rattle.residual.specs.Blocks.{way}
+use Rattle.itx.specs.Calls.{Block, Call, plain, live, bad-rows, with-depth, table, verdict, outcome-of, outcome}
 use Rattle.itx.specs.Demands.{Accepted, Alone, whole, Announced, eob, rows, other-type, first-only}
-use Rattle.itx.proofs.Sameness.{live-whole, plain-whole, zero-whole, with-eob, with-rows}
+use Rattle.itx.proofs.Verdicts.{then-same, planned-at, accepted-by}
+use Rattle.itx.proofs.Sameness.{strays-none, live-whole, plain-whole, zero-whole, with-eob, with-rows}
 use Rattle.itx.proofs.Shortcut.{dct-dct, shortcut-whole}
 
 module _ (b : Block) (p : Plan) (d : Depth) (good : Accepted (plain (pos 0)) b p d) where
@@ -33,3 +42,34 @@ module _ (b : Block) (p : Plan) (d : Depth) (good : Accepted (plain (pos 0)) b p
   -- announcing more never changes the picture
   pub announcing-more : {call call′ : Call} → Announced b p d call → Announced b p d call′ → outcome call b ≡ outcome call′ b
   announcing-more a a′ = demand-3 a ∙ sym (demand-3 a′)
+
+-- ---- of any block: live rows that cover are the plain call with eob 1, refusals included
+
+module _ (b : Block) (r : ℕ) (from : 1 ≤ r) (to : r ≤ b .h) (covers : Covers (b .w) (b .h) (b .coefs) r) where
+  -- lines 5 and 10 find nothing, and the others do not ask for the call
+  same-lines : (p : Plan) (d : Depth) → plan (b .w) (b .h) (b .type) ≡ accept p → Alike (table (live r) b) (table (plain (pos 1)) b) (p, d)
+  same-lines p d e =
+      let k = plan-of (b .w) (b .h) (b .type) p e in
+      let high = side-bounds (p .h) (plan-sided (b .w) (b .h) (b .type) p e .1) .0 in
+      let inside : r ≤ p .h = omega (arith, k .h-is) in
+      let covers′ : Covers (p .w) (p .h) (b .coefs) r =
+      (λ y x g u v. ap (λ (n : ℕ). at (b .coefs) (y + x * n)) (k .h-is) ∙ covers y x g (omega (arith, k .h-is)) (omega (arith, k .w-is))) in
+      let rows : when (bad-rows (live r) (p .h)) ≡ none = (λ i. when (not (le-leb 1 r from i && le-leb r (p .h) inside i))) in
+      let strays = strays-none (p .w) (p .h) (omega arith) (b .coefs) r covers′ in
+      (refl, refl, (refl, rows, (refl, refl, (refl, refl, (refl, refl, (refl, refl, (refl, refl, (refl, strays, (refl, refl, tt)))))))))
+
+  same-verdict : verdict (live r) b ≡ verdict (plain (pos 1)) b
+  same-verdict =
+      let k = plan (b .w) (b .h) (b .type) in
+      then-same (then k (with-depth (b .depth))) (judged (table (live r) b)) (judged (table (plain (pos 1)) b))
+      (λ a e. alike (table (live r) b) (table (plain (pos 1)) b) a (same-lines (a .0) (a .1) (planned-at k (b .depth) (a .0) (a .1) e .0)))
+
+  pub live-plain : outcome (live r) b ≡ outcome (plain (pos 1)) b
+  unfolding outcome
+  live-plain = go (verdict (live r) b) refl
+    where
+      go : (c : Check (Plan × Depth)) → verdict (live r) b ≡ c → outcome (live r) b ≡ outcome (plain (pos 1)) b
+      go (refuse n i) e = ap (outcome-of way (live r) b) e ∙ sym (ap (outcome-of way (plain (pos 1)) b) (sym same-verdict ∙ e))
+      go (accept (p, d)) e =
+          live-whole b p d r (accepted-by (live r) b p d e)
+          ∙ sym (plain-whole b p d 0 (accepted-by (plain (pos 1)) b p d (sym same-verdict ∙ e)))

@@ -1,5 +1,6 @@
 -- What is proved of the two-dimensional transform.
 pub mod Verdicts
+pub mod Numbers
 pub mod LiveRows
 pub mod Sameness
 pub mod Outcomes

@@ -24,6 +24,7 @@ use Rattle.pixels.specs.Adds.{add-pixel}
 use Rattle.itx.specs.Calls.{Block, Call, verdict, Outcome, short, live-rows, painted, by-shortcut, by-passes, outcome-of, outcome, Meets}
 use Rattle.itx.specs.Demands.{Accepted}
 use Rattle.pixels.proofs.Pixels.{rows-length, pixel-kept, pixel-set}
+use Rattle.itx.proofs.Numbers.{answered}
 use Rattle.itx.proofs.Sameness.{opened, area-positive}
 
 -- ---- an accepted call
@@ -94,11 +95,7 @@ module _ (call : Call) (b : Block) where
 
   left-alone : (v : Check (Plan × Depth)) → (outcome-of way call b v .answer .number ≡ 0 → ⊥) → Left (outcome-of way call b v)
   left-alone (refuse n i) f = (refl, refl, refl)
-  left-alone (accept (p, d)) f = absurd (f (go (short call p)))
-    where
-      go : (t : Bool) → cond t (by-shortcut b p d) (by-passes b p d (way p d) (live-rows call p)) .answer .number ≡ 0
-      go true = refl
-      go false = refl
+  left-alone (accept a) f = absurd (f (answered way call b (accept a)))
 
   -- demand 1
   pub refusal-leaves : (outcome call b .answer .number ≡ 0 → ⊥) → Left (outcome call b)

@@ -1,5 +1,5 @@
 -- A call is accepted just when no number of the table holds.
-use mathlib.Core.Path.{_≡_, ap, _∙_}
+use mathlib.Core.Path.{_≡_, refl, ap, _∙_}
 use mathlib.Core.Bool.{Bool, true, false, cond}
 use Prim.Native.Nat.{ℕ}
 use Rattle.whole.specs.Checks.{Check, accept, refuse, then, when, judged}
@@ -24,6 +24,11 @@ by-plan F w h type no-size no-type planned = shifted (among w h shift-0) (among 
     shifted false true c = kinds 1
     shifted false false true = kinds 2
     shifted false false false = no-size
+
+-- two ways to go on from a check
+pub then-same : {A C : Type 0} (c : Check A) (f g : A → Check C) → ((a : A) → c ≡ accept a → f a ≡ g a) → then c f ≡ then c g
+then-same (accept a) f g same = same a refl
+then-same (refuse n i) f g same = refl
 
 -- what an acceptance tells of the plan and of the depth
 pub planned-at : (k : Check Plan) (n : ℕ) (p : Plan) (d : Depth) → then k (with-depth n) ≡ accept (p, d) → (k ≡ accept p) × (depth n ≡ accept d)

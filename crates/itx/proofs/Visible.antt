@@ -10,7 +10,7 @@ use borrow.Author.Tests.{le-ltb, lt-ltb, ltb-true}
 use lib.Dec.{eqb, ltb}
 use lib.IntN.{ℤ, pos, natAbs}
 use lib.ListN.{getD, length}
-use Rattle.whole.specs.Checks.{Check, accept, refuse, then, unless-at, when, judged}
+use Rattle.whole.specs.Checks.{accept, then, unless-at, when, judged}
 use Rattle.whole.proofs.Counts.{tab-length, tab-at}
 use Rattle.bitdepth.specs.declared.Depth.{Depth}
 use Rattle.bitdepth.specs.Depths.{depth, maximum}
@@ -29,6 +29,7 @@ use Rattle.itx.specs.Demands.{Accepted}
 use Rattle.itx.specs.Visible.{over, shown, padded, table-01, verdict-01, painted-01}
 use Rattle.itx.proofs.Outcomes.{answer-is, coefs-are, pixels-are, pixel-rule, added}
 use Rattle.itx.proofs.Sameness.{sides}
+use Rattle.itx.proofs.Verdicts.{then-same, planned-at}
 
 -- ---- one block on two planes
 
@@ -62,18 +63,21 @@ all-seen w h v wide tall c r =
     (λ i. not-in w (c i) || not-in h (r i))
     ∙ (λ i. (le-ltb w 1 wide i || le-ltb w w (omega arith) i) || (le-ltb h 1 tall i || le-ltb h h (omega arith) i))
 
-module _ (w h : ℕ) (wide : 1 ≤ w) (tall : 1 ≤ h) (a : Plane) where
-  even : eqb (natAbs (pos (2 * w)) % 2) 1 ≡ false
-  even = let e : 2 * w % 2 ≡ 0 = omega arith in ap (λ (n : ℕ). eqb n 1) e
+-- a plane of just the block's own pixels has none of the numbers 20, 7 and 8
+pub whole-spotted : (w h size : ℕ) → 1 ≤ w → 1 ≤ h → size ≡ w * h → Spotted Wide size w h (whole w h)
+whole-spotted w h size wide tall is = record {
+  seen = all-seen w h (whole w h) wide tall refl refl;
+  stride = (λ i. even i || ltb (natAbs (half w i)) w) ∙ le-ltb w w (omega arith);
+  inside = (λ i. rows-outside (is i) 0 (half w i) w h)
+      ∙ all-inside (w * h) 0 (pos w) w h (λ y l. (omega arith, omega (arith, mul-le-mul-right {m = suc y} {n = h} w l)));
+}
+  where
+    even : eqb (natAbs (pos (2 * w)) % 2) 1 ≡ false
+    even = let e : 2 * w % 2 ≡ 0 = omega arith in ap (λ (n : ℕ). eqb n 1) e
 
+module _ (w h : ℕ) (wide : 1 ≤ w) (tall : 1 ≤ h) (a : Plane) where
   padded-spotted : Spotted Wide (length (padded a w h .pixels)) w h (whole w h)
-  padded-spotted = record {
-    seen = all-seen w h (whole w h) wide tall refl refl;
-    stride = (λ i. even i || ltb (natAbs (half w i)) w) ∙ le-ltb w w (omega arith);
-    inside =
-        (λ i. rows-outside (tab-length (w * h) (λ i. shown a (i / w) (i % w)) i) 0 (half w i) w h)
-        ∙ all-inside (w * h) 0 (pos w) w h (λ y l. (omega arith, omega (arith, mul-le-mul-right {m = suc y} {n = h} w l)));
-  }
+  padded-spotted = whole-spotted w h (length (padded a w h .pixels)) wide tall (tab-length (w * h) (λ i. shown a (i / w) (i % w)))
 
   -- each of its pixels
   padded-pixel : (y x : ℕ) → y < h → x < w → getD (padded a w h .pixels) (place (padded a w h) y x) 0 ≡ shown a y x
@@ -165,16 +169,10 @@ module _ (call : Call) (b : Block) (columns : b .plane .view .columns ≡ b .w) 
 
   -- the same refusals
   pub verdict-whole : verdict call b ≡ verdict-01 call b
-  verdict-whole = go (plan (b .w) (b .h) (b .type)) refl
-    where
-      deep : (p : Plan) → plan (b .w) (b .h) (b .type) ≡ accept p → (o : Check Depth)
-          → then (then o (λ d. accept (p, d))) (judged (table call b)) ≡ then (then o (λ d. accept (p, d))) (judged (table-01 call b))
-      deep p e (accept d) = table-whole p e d
-      deep p e (refuse n i) = refl
-
-      go : (k : Check Plan) → plan (b .w) (b .h) (b .type) ≡ k → then (then k (with-depth (b .depth))) (judged (table call b)) ≡ then (then k (with-depth (b .depth))) (judged (table-01 call b))
-      go (accept p) e = deep p e (depth (b .depth))
-      go (refuse n i) e = refl
+  verdict-whole =
+      let k = plan (b .w) (b .h) (b .type) in
+      then-same (then k (with-depth (b .depth))) (judged (table call b)) (judged (table-01 call b))
+      (λ a e. table-whole (a .0) (planned-at k (b .depth) (a .0) (a .1) e .0) (a .1))
 
   -- and the same pixels
   pub pixels-whole : (p : Plan) (d : Depth) → Accepted call b p d → outcome call b .pixels ≡ painted-01 (maximum d) (b .plane) (p .w) (p .h) (added call b p d)

@@ -1,17 +1,16 @@
 -- E2: eight-bit pages at their own width. The narrow calls promise the same outcome over a narrow plane, so everything that is proved of a block holds of
 -- theirs. Here: that it is the wide call's, and which numbers never occur.
 use mathlib.Core.Path.{_≡_, refl, sym, ap, _∙_, subst⁻¹}
-use mathlib.Core.Bool.{Bool, true, false, cond, _&&_, _||_}
+use mathlib.Core.Bool.{Bool, true, false, cond, _&&_}
 use mathlib.Core.List.{List, [], _∷_, _++_}
-use mathlib.Core.Option.{Option, none, some}
-use Prim.Native.Nat.{ℕ, _+_, _*_, _%_, _≤_}
+use mathlib.Core.Option.{none}
+use Prim.Native.Nat.{ℕ, _*_, _%_, _≤_}
 use native.Mathlib.Nat.{le-trans}
 use native.Mathlib.Omega.{arith}
 use borrow.Author.Tests.{le-ltb}
-use lib.Dec.{T, eqb, ltb, lit≤}
+use lib.Dec.{T, ltb, lit≤}
 use lib.IntN.{ℤ, pos}
 use lib.ListN.{getD, length, set, replicate, drop}
-use mir.Facts.{and-yes}
 use Rattle.whole.specs.Numbers.{outside, low, high}
 use Rattle.whole.specs.Lists.{at}
 use Rattle.whole.specs.Checks.{Check, accept, refuse, then, unless-at, Line, when, judged}
@@ -32,12 +31,12 @@ use Rattle.strided.proofs.Widths.{doubled, same-spot, same-stride}
 use Rattle.residual.specs.Blocks.{way, residual, marked, shortcut}
 use Rattle.pixels.specs.Above.{above, first-above}
 use Rattle.pixels.specs.Adds.{add-rows}
-use Rattle.itx.specs.Calls.{Block, Call, eob-line, rows-line, count-line, lengths-lines, range-line, stray-line, pixel-line, table, with-depth, verdict, out-of-range, Outcome, short, live-rows, by-shortcut, by-passes, outcome-of, outcome}
+use Rattle.itx.specs.Calls.{Block, Call, eob-line, rows-line, count-line, lengths-lines, range-line, stray-line, pixel-line, table, with-depth, verdict, out-of-range, short, live-rows, outcome-of, outcome}
 use Rattle.itx.specs.Answers.{block}
-use Rattle.itx.proofs.Verdicts.{by-plan}
+use Rattle.itx.proofs.Numbers.{num, answer-num, has, num-by, shift-by, checked-by}
 
 -- a line that finds nothing can be left out
-left-out : {A : Type 0} (ls : List (Line A)) (l : Line A) (ms : List (Line A)) (a : A) → none ≡ l .1 a → judged (ls ++ l ∷ ms) a ≡ judged (ls ++ ms) a
+pub left-out : {A : Type 0} (ls : List (Line A)) (l : Line A) (ms : List (Line A)) (a : A) → none ≡ l .1 a → judged (ls ++ l ∷ ms) a ≡ judged (ls ++ ms) a
 left-out [] l ms a e = λ i. unless-at (sym e i) (l .0) (judged ms a)
 left-out (k ∷ ls) l ms a e = λ i. unless-at (k .1 a) (k .0) (left-out ls l ms a e i)
 
@@ -66,27 +65,6 @@ above-none ps s w d bytes = sym (none-first (s .rows * w) (above (maximum d) ps 
     most Eight = lit≤ tt
     most Ten = lit≤ tt
     most Twelve = lit≤ tt
-
--- a table answers by its own numbers
-abbrev has : ℕ → List ℕ → Bool
-has n [] = false
-has n (m ∷ ms) = eqb n m || has n ms
-
-abbrev all-in : {A : Type 0} → List ℕ → List (Line A) → Bool
-all-in ns [] = true
-all-in ns (l ∷ ls) = has (l .0) ns && all-in ns ls
-
-abbrev Among : {A : Type 0} → List ℕ → Check A → Type 0
-Among ns (accept a) = Unit {0}
-Among ns (refuse n i) = T (has n ns)
-
-judged-among : (A : Type 0) (ns : List ℕ) (ls : List (Line A)) (a : A) → T (all-in ns ls) → Among ns (judged ls a)
-judged-among A ns [] a t = tt
-judged-among A ns (l ∷ ls) a t = let b = and-yes (has (l .0) ns) (all-in ns ls) t in go (l .1 a) (judged ls a) (b .0) (judged-among A ns ls a (b .1))
-  where
-    go : (o : Option ℕ) (k : Check A) → T (has (l .0) ns) → Among ns k → Among ns (unless-at o (l .0) k)
-    go (some i) k f g = f
-    go none k f g = g
 
 module _ (call : Call) (w h type : ℕ) (c : List ℤ) (ps : List ℕ) (v : View) where
   -- the block as the narrow call is given it, and as the wide one would be
@@ -145,17 +123,8 @@ module _ (call : Call) (w h type : ℕ) (c : List ℤ) (ps : List ℕ) (v : View
     abbrev pub narrow-numbers : List ℕ
     narrow-numbers = 0 ∷ 1 ∷ 2 ∷ 4 ∷ 5 ∷ 6 ∷ 20 ∷ 7 ∷ 8 ∷ 10 ∷ []
 
-    pub never-others : T (has (outcome call narrow .answer .number) narrow-numbers)
-    unfolding outcome
-    never-others = answered (verdict call narrow) (subst⁻¹ (Among narrow-numbers) narrow-verdict among)
-      where
-        among : Among narrow-numbers (then (then (plan w h type) (with-depth 8)) (judged narrow-lines))
-        among = by-plan (λ k. Among narrow-numbers (then (then k (with-depth 8)) (judged narrow-lines))) w h type tt tt (λ p. judged-among (Plan × Depth) narrow-numbers narrow-lines (p, Eight) tt)
-
-        done : (s : Bool) (a b : Outcome) → a .answer .number ≡ 0 → b .answer .number ≡ 0 → T (has (cond s a b .answer .number) narrow-numbers)
-        done true a b e f = subst⁻¹ (λ (n : ℕ). T (has n narrow-numbers)) e tt
-        done false a b e f = subst⁻¹ (λ (n : ℕ). T (has n narrow-numbers)) f tt
-
-        answered : (k : Check (Plan × Depth)) → Among narrow-numbers k → T (has (outcome-of way call narrow k .answer .number) narrow-numbers)
-        answered (refuse n i) t = t
-        answered (accept (p, d)) t = done (short call p) (by-shortcut narrow p d) (by-passes narrow p d (way p d) (live-rows call p)) refl refl
+    pub never-others : T (has narrow-numbers (outcome call narrow .answer .number))
+    never-others =
+        subst⁻¹ (λ (n : ℕ). T (has narrow-numbers n)) (answer-num call narrow ∙ ap num narrow-verdict)
+        (num-by (has narrow-numbers) (then (then (plan w h type) (with-depth 8)) (judged narrow-lines)) tt
+        (checked-by (has narrow-numbers) w h type 8 (shift-by (has narrow-numbers) w h tt) tt tt narrow-lines tt))

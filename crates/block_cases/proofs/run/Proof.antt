@@ -1,33 +1,62 @@
--- `block_cases::run` is safe and ends, and stays inside its output. The measure is the number of turns that are left.
+-- `block_cases::run` is safe and ends, and stays inside its outputs. The measure is the number of turns that are left.
 use mathlib.Core.Path.{_≡_, subst}
 use mathlib.Core.List.{List}
 use Prim.Native.Nat.{ℕ, _+_, _≤_}
 use native.Mathlib.Omega.{arith}
 use borrow.Author.Needs.{needs}
-use lib.ListN.{length, length-take}
-use Rattle.blockfile.proofs.Stepping.{Does, does}
+use lib.Dec.{eqb}
+use lib.ListN.{length, take, length-take}
+use Rattle.jobs.specs.Answer.{placeAt, roomy}
+use Rattle.jobs.specs.declared.step.Job.the-variants as Job
+use Rattle.jobs.proofs.Runs.{Inside, inside}
 use Rattle.block_cases.proofs.run.Statement.{statement}
 use Rattle.block_cases.proofs.run.Tie as tie
 
-record Held (file output : List ℕ) (have put i turns : ℕ) : Type 0 where
-  inside : have ≤ length file
+record Held (file output error : List ℕ) (have put told i turns : ℕ) : Type 0 where
+  within : have ≤ length file
   room : put ≤ 16384
+  error-room : told ≤ 256
   counted : i + turns ≤ 65536
   output-length : 16384 ≡ length output
+  error-length : 256 ≡ length error
 
 abbrev Inv-loop : tie.InvT-loop
-Inv-loop file piece output₀ at₀ have₀ put₀ record₀ turns₀ output at have put «record» turns = Held file output have put «record» turns
+Inv-loop file piece output₀ error₀ at₀ have₀ put₀ told₀ version₀ record₀ turns₀ output error at have put told version «record» turns =
+    Held file output error have put told «record» turns
 
 abbrev μ-loop : tie.MeasureT-loop
-μ-loop file piece output₀ at₀ have₀ put₀ record₀ turns₀ output at have put «record» turns = turns
+μ-loop file piece output₀ error₀ at₀ have₀ put₀ told₀ version₀ record₀ turns₀ output error at have put told version «record» turns = turns
+
+abbrev top : tie.After-step Inv-loop μ-loop → tie.At-loop Inv-loop μ-loop
+top c = c .before .before .before .before .before
+
+rooms : (c : tie.After-step Inv-loop μ-loop) → Inside 16384 256 (c .step .result)
+rooms c =
+    let l = top c .loop in
+    let file = top c .before .before .before .before .args .file .now in
+    rw (l .inv .output-length, l .inv .error-length)
+    (inside (roomy (l .output) (l .put) (l .error) (l .told)) Job.Blocks (placeAt (l .version) (l .«record») tt) (take (l .have) file) (l .at) (eqb (l .have) (length file))
+    (l .output) (l .put) (l .error) (l .told) (c .step .last .1 .1 .1 .1 .1 .1 .0) (c .step .last .1 .1 .1 .1 .1 .1 .1 .1 .0) (c .step .result) (c .step .ensures tt))
+
+slice-aggregate-step : tie.Need-slice-aggregate-step Inv-loop μ-loop
+slice-aggregate-step c = simp length-take (omega arith)
 
 loop-again : tie.Need-loop-again Inv-loop μ-loop
 loop-again c =
-    let s = c .before .before .before .before .before in
-    let l = s .before .before .before .before .before in
-    let d = does (l .loop .«record») _ (l .loop .at) (l .loop .output) (l .loop .put) (s .step .last .1 .1 .1 .1 .0) (s .step .ensures) in
-    let a = subst (Does _ _ _ _ _ _) (c .before .turn .given .1) d in
-    record { inside = l .loop .inv .inside; room = omega (arith, a .room, l .loop .inv .output-length); counted = omega (arith, l .loop .inv .counted); output-length = search needs }
+    let s = c .before .before .before .before .before .before .before in
+    let l = top s .loop in
+    let r = subst (Inside 16384 256) (c .before .turn .given .1) (rooms s) in
+    record {
+      within = l .inv .within;
+      room = r .0;
+      error-room = r .1;
+      counted = omega (arith, l .inv .counted);
+      output-length = omega (arith, l .inv .output-length, s .step .kept);
+      error-length = omega (arith, l .inv .error-length, s .step .kept);
+    }
+
+returns : tie.Need-returns Inv-loop μ-loop
+returns c = subst (Inside 16384 256) (c .before .turn2 .given .1) (rooms (c .before .before .before .before .before .before .before))
 
 pub run-spec : {M : Type 1} → statement M
 run-spec =
@@ -37,7 +66,7 @@ run-spec =
     μ-loop
     (λ c. search needs)
     (λ c. search needs)
-    (λ c. simp length-take (omega arith))
+    slice-aggregate-step
     (λ c κs. search needs)
     (λ c. search needs)
     (λ c. search needs)
@@ -45,6 +74,7 @@ run-spec =
     loop-again
     (λ c. search needs)
     (λ c. search needs)
+    (λ c. search needs)
     (λ c κs. search needs)
     (λ c. search needs)
     (λ c. search needs)
@@ -52,7 +82,7 @@ run-spec =
     (λ c. search needs)
     (λ c. search needs)
     (λ c. search needs)
-    (λ c. search needs)
+    returns
     (λ c. search needs)
     (λ c. search needs)
     (λ c. search needs)

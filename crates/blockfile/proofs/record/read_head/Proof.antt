@@ -7,7 +7,7 @@ use Rattle.blockfile.specs.Record.{sized}
 use Rattle.blockfile.specs.Answer.{numberRefusal}
 use Rattle.blockfile.proofs.Fill.{Took, took, Missed, missed}
 use Rattle.blockfile.specs.declared.record.HeadRead.the-variants.{Refused}
-use Rattle.blockfile.proofs.Heads.{no-w, no-h, no-size, no-txtp, no-depth, no-eob, large-eob, whole}
+use Rattle.blockfile.proofs.Heads.{no-w, no-h, no-size, no-txtp, no-depth, no-announced, no-announcing, whole}
 use borrow.Author.Needs.{needs}
 use Rattle.blockfile.proofs.record.read_head.Statement.{statement}
 use Rattle.blockfile.proofs.record.read_head.Tie as tie
@@ -85,7 +85,7 @@ refusal-requires : tie.Need-refusal-requires
 refusal-requires c κs = search needs
 
 returns : tie.Need-returns
-returns c = ap Refused (c .refusal .ensures ∙ ap numberRefusal (c .before .enum-told .given .1)) ∙ no-w (m1 c)
+returns c = ap Refused (c .refusal .ensures ∙ ap numberRefusal (c .before .enum-told .given .1)) ∙ no-w _ (m1 c)
 
 read-number-requires-2 : tie.Need-read-number-requires-2
 read-number-requires-2 c κs = search needs
@@ -102,7 +102,7 @@ refusal-requires-2 c κs = search needs
 returns-2 : tie.Need-returns-2
 returns-2 c =
     let e = c .before .before .before .before in
-    ap Refused (c .refusal2 .ensures ∙ ap numberRefusal (c .before .enum-told2 .given .1)) ∙ no-h (t1 e) (m2 c)
+    ap Refused (c .refusal2 .ensures ∙ ap numberRefusal (c .before .enum-told2 .given .1)) ∙ no-h _ (t1 e) (m2 c)
 
 is-sized-requires : tie.Need-is-sized-requires
 is-sized-requires c κs = search needs
@@ -110,7 +110,7 @@ is-sized-requires c κs = search needs
 returns-3 : tie.Need-returns-3
 returns-3 c =
     let e = c .before .before in
-    no-size (t1 (s2 e)) (t2 e) (sym (c .before .is-sized .ensures) ∙ not-true (c .before .is-sized .result) (c .if1 .taken))
+    no-size _ (t1 (s2 e)) (t2 e) (sym (c .before .is-sized .ensures) ∙ not-true (c .before .is-sized .result) (c .if1 .taken))
 
 read-number-requires-3 : tie.Need-read-number-requires-3
 read-number-requires-3 c κs = search needs
@@ -127,7 +127,7 @@ refusal-requires-3 c κs = search needs
 returns-4 : tie.Need-returns-4
 returns-4 c =
     let e = c .before .before .before .before in
-    ap Refused (c .refusal3 .ensures ∙ ap numberRefusal (c .before .enum-told3 .given .1)) ∙ no-txtp (t1 (s2 (sized-at e))) (t2 (sized-at e)) (right-size e) (m3 c)
+    ap Refused (c .refusal3 .ensures ∙ ap numberRefusal (c .before .enum-told3 .given .1)) ∙ no-txtp _ (t1 (s2 (sized-at e))) (t2 (sized-at e)) (right-size e) (m3 c)
 
 read-number-requires-4 : tie.Need-read-number-requires-4
 read-number-requires-4 c κs = search needs
@@ -144,7 +144,7 @@ refusal-requires-4 c κs = search needs
 returns-5 : tie.Need-returns-5
 returns-5 c =
     let e = c .before .before .before .before in
-    ap Refused (c .refusal4 .ensures ∙ ap numberRefusal (c .before .enum-told4 .given .1)) ∙ no-depth (t1 (s2 (sized-at (s3 e)))) (t2 (sized-at (s3 e))) (right-size (s3 e)) (t3 e) (m4 c)
+    ap Refused (c .refusal4 .ensures ∙ ap numberRefusal (c .before .enum-told4 .given .1)) ∙ no-depth _ (t1 (s2 (sized-at (s3 e)))) (t2 (sized-at (s3 e))) (right-size (s3 e)) (t3 e) (m4 c)
 
 read-number-requires-5 : tie.Need-read-number-requires-5
 read-number-requires-5 c κs = search needs
@@ -161,23 +161,32 @@ refusal-requires-5 c κs = search needs
 returns-6 : tie.Need-returns-6
 returns-6 c =
     let e = c .before .before .before .before in
-    ap Refused (c .refusal5 .ensures ∙ ap numberRefusal (c .before .enum-told5 .given .1)) ∙ no-eob (t1 (s2 (sized-at (s3 (s4 e))))) (t2 (sized-at (s3 (s4 e)))) (right-size (s3 (s4 e))) (t3 (s4 e)) (t4 e) (m5 c)
+    ap Refused (c .refusal5 .ensures ∙ ap numberRefusal (c .before .enum-told5 .given .1)) ∙ no-announced _ (t1 (s2 (sized-at (s3 (s4 e))))) (t2 (sized-at (s3 (s4 e)))) (right-size (s3 (s4 e))) (t3 (s4 e)) (t4 e) (m5 c)
+
+can-announce-requires : tie.Need-can-announce-requires
+can-announce-requires c κs = search needs
+
+announce-refusal-requires : tie.Need-announce-refusal-requires
+announce-refusal-requires c κs = search needs
 
 returns-7 : tie.Need-returns-7
 returns-7 c =
-    let e5 = c .before in
+    let e5 = c .before .before .before in
     let e4 = s5 e5 in
     let e3 = s4 e4 in
     let e2 = s3 e3 in
-    large-eob (t1 (s2 (sized-at e2))) (t2 (sized-at e2)) (right-size e2) (t3 e3) (t4 e4) (t5 e5) (c .if2 .taken)
+    ap Refused (c .announce-refusal .ensures)
+    ∙ no-announcing _ (t1 (s2 (sized-at e2))) (t2 (sized-at e2)) (right-size e2) (t3 e3) (t4 e4) (t5 e5)
+    (sym (c .before .before .can-announce .ensures) ∙ not-true (c .before .before .can-announce .result) (c .before .if2 .taken))
 
 returns-8 : tie.Need-returns-8
 returns-8 c =
-    let e5 = c .before in
+    let e5 = c .before .before in
     let e4 = s5 e5 in
     let e3 = s4 e4 in
     let e2 = s3 e3 in
-    whole (t1 (s2 (sized-at e2))) (t2 (sized-at e2)) (right-size e2) (t3 e3) (t4 e4) (t5 e5) (c .if2 .left)
+    whole _ (t1 (s2 (sized-at e2))) (t2 (sized-at e2)) (right-size e2) (t3 e3) (t4 e4) (t5 e5)
+    (sym (c .before .can-announce .ensures) ∙ not-false (c .before .can-announce .result) (c .if2 .left))
 
 pub read-head-spec : {M : Type 1} → statement M
 read-head-spec =
@@ -210,5 +219,7 @@ read-head-spec =
     enum-told-5
     refusal-requires-5
     returns-6
+    can-announce-requires
+    announce-refusal-requires
     returns-7
     returns-8)

@@ -1,12 +1,12 @@
 -- `record::read_record` meets its contract: at each return what was read so far, and what was not, say which case holds.
-use mathlib.Core.Path.{sym, ap, subst, _∙_}
+use mathlib.Core.Path.{_≡_, sym, ap, subst, _∙_}
 use native.Mathlib.Omega.{arith}
 use borrow.Author.Needs.{needs}
-use Rattle.blockfile.specs.Record.{area, coefficient}
+use Rattle.blockfile.specs.Record.{coefficient, count}
 use Rattle.blockfile.specs.declared.record.Found.the-variants.{Refused}
 use Rattle.blockfile.specs.Answer.{RecordAt, headRefusal, placeRefusal}
 use Rattle.blockfile.proofs.Records.{coefficient-lawful, pixel-lawful}
-use Rattle.blockfile.proofs.Fill.{FilledTo, filled-to, filled-not}
+use Rattle.blockfile.proofs.Fill.{FilledTo, as-many, filled-to, filled-not}
 use Rattle.blockfile.proofs.Loads.{HeadTook, head-took, head-missed, at-end, no-head, no-coefficients, no-pixels, all-read}
 use Rattle.blockfile.proofs.record.read_record.Statement.{statement}
 use Rattle.blockfile.proofs.record.read_record.Tie as tie
@@ -18,16 +18,23 @@ entry c = c .before .before .before
 abbrev s1 : tie.After-known-told → tie.Else1
 s1 c = c .before .before .before .before
 
-h-took : (c : tie.After-known-told) → HeadTook (entry (s1 c) .args .s .now) (entry (s1 c) .args .at) (c .before .start .given .0 .0) (c .before .start .given .0 .1 .0)
-h-took c = head-took _ _ _ _ (sym (c .before .start .given .1) ∙ c .before .before .before .read-head .ensures)
+h-took : (c : tie.After-known-told) → HeadTook (entry (s1 c) .args .version) (entry (s1 c) .args .s .now) (entry (s1 c) .args .at) (c .before .start .given .0 .0) (c .before .start .given .0 .1 .0)
+h-took c = head-took _ _ _ _ _ (sym (c .before .start .given .1) ∙ c .before .before .before .read-head .ensures)
 
 -- and the coefficients
 abbrev s2 : tie.After-known-told2 → tie.After-known-told
-s2 c = c .before .before .before .before .before .before
+s2 c = c .before .before .before .before .before .before .before
 
-m-took : (c : tie.After-known-told2) → FilledTo coefficient (entry (s1 (s2 c)) .args .s .now) (s2 c .before .start .given .0 .1 .0) (area (s2 c .before .start .given .0 .0))
+-- as many as the definition counts
+counted : (c : tie.After-coefficient-count) → c .coefficient-count .result ≡ count (entry (s1 (c .before)) .args .version) (c .before .before .start .given .0 .0)
+counted c = c .coefficient-count .ensures .0
+
+m-took : (c : tie.After-known-told2) → FilledTo coefficient (entry (s1 (s2 c)) .args .s .now) (s2 c .before .start .given .0 .1 .0) (count (entry (s1 (s2 c)) .args .version) (s2 c .before .start .given .0 .0))
     (entry (s1 (s2 c)) .args .coefficients .now) (c .before .before .before .before .read-coefficients .last .1 .1 .1 .0) (c .before .middle .given .0 .0)
-m-took c = filled-to coefficient-lawful _ (c .before .middle .given .1) (c .before .before .before .before .read-coefficients .ensures)
+m-took c =
+    let f = c .before .before .before .before in
+    filled-to coefficient-lawful _ (c .before .middle .given .1)
+    (as-many (counted (f .before .before)) (f .read-coefficients .ensures))
 
 returns : tie.Need-returns
 returns c = at-end _ _ (c .if1 .taken)
@@ -47,17 +54,19 @@ head-refusal-requires c κs = search needs
 returns-2 : tie.Need-returns-2
 returns-2 c =
     let k = c .before .enum-told .given .1 in
-    subst (RecordAt _ _ _ _ _ _) (sym (ap Refused (c .head-refusal .ensures ∙ ap headRefusal k)))
-    (no-head _ _ (c .before .before .before .before .if1 .left) (head-missed _ _ _ (sym k ∙ c .before .before .before .read-head .ensures)))
+    subst (RecordAt _ _ _ _ _ _ _) (sym (ap Refused (c .head-refusal .ensures ∙ ap headRefusal k)))
+    (no-head _ _ (c .before .before .before .before .if1 .left) (head-missed _ _ _ _ (sym k ∙ c .before .before .before .read-head .ensures)))
 
-mul-n : tie.Need-mul-n
-mul-n c = omega (arith, h-took c .few)
+coefficient-count-requires : tie.Need-coefficient-count-requires
+coefficient-count-requires c κs = (h-took c .few, h-took c .allowed)
 
-cast-n : tie.Need-cast-n
-cast-n c = omega (arith, h-took c .few)
+cast-count : tie.Need-cast-count
+cast-count c = search needs
 
 read-coefficients-requires : tie.Need-read-coefficients-requires
-read-coefficients-requires c κs = (h-took (c .before) .inside, omega (arith, h-took (c .before) .few, entry (s1 (c .before)) .pre))
+read-coefficients-requires c κs =
+    let h = c .before .before in
+    (h-took h .inside, omega (arith, c .before .coefficient-count .ensures .1, entry (s1 h) .pre))
 
 enum-known-middle : tie.Need-enum-known-middle
 enum-known-middle c = search needs
@@ -74,9 +83,16 @@ same-length c = search needs
 returns-3 : tie.Need-returns-3
 returns-3 c =
     let k = c .before .enum-told2 .given .1 in
-    let c1 = c .before .before .before .before .before .before in
-    subst (RecordAt _ _ _ _ _ _) (sym (ap Refused (c .refusal .ensures ∙ ap placeRefusal k)))
-    (no-coefficients _ _ (s1 c1 .if1 .left) (h-took c1) (filled-not _ k (c .before .before .before .before .read-coefficients .ensures)))
+    let f = c .before .before .before .before in
+    let c1 = f .before .before .before in
+    subst (RecordAt _ _ _ _ _ _ _) (sym (ap Refused (c .refusal .ensures ∙ ap placeRefusal k)))
+    (no-coefficients _ _ (s1 c1 .if1 .left) (h-took c1) (filled-not _ k (as-many (counted (f .before .before)) (f .read-coefficients .ensures))))
+
+mul-n : tie.Need-mul-n
+mul-n c = omega (arith, h-took (s2 c) .few)
+
+cast-n : tie.Need-cast-n
+cast-n c = omega (arith, h-took (s2 c) .few)
 
 read-pixels-requires : tie.Need-read-pixels-requires
 read-pixels-requires c κs = (m-took (c .before) .inside, omega (arith, h-took (s2 (c .before)) .few, entry (s1 (s2 (c .before))) .pre))
@@ -100,7 +116,7 @@ returns-4 : tie.Need-returns-4
 returns-4 c =
     let k = c .before .enum-told3 .given .1 in
     let c2 = c .before .before .before .before .before .before .before in
-    subst (RecordAt _ _ _ _ _ _) (sym (ap Refused (c .refusal2 .ensures ∙ ap placeRefusal k)))
+    subst (RecordAt _ _ _ _ _ _ _) (sym (ap Refused (c .refusal2 .ensures ∙ ap placeRefusal k)))
     (no-pixels _ _ (s1 (s2 c2) .if1 .left) (h-took (s2 c2)) (m-took c2) (filled-not _ k (c .before .before .before .before .before .read-pixels .ensures)))
 
 same-length-4 : tie.Need-same-length-4
@@ -124,14 +140,16 @@ read-record-spec =
     enum-told
     head-refusal-requires
     returns-2
-    mul-n
-    cast-n
+    coefficient-count-requires
+    cast-count
     read-coefficients-requires
     enum-known-middle
     enum-told-2
     refusal-requires
     same-length
     returns-3
+    mul-n
+    cast-n
     read-pixels-requires
     enum-known-end
     enum-told-3

@@ -1,2 +1,0 @@
--- What the program may write.
-pub mod Output

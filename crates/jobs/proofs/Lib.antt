@@ -1,0 +1,9 @@
+-- Laws of the tasks.
+pub mod Streaming
+pub mod Handing
+pub mod Held
+pub mod Laying
+pub mod Zeros
+pub mod Acts
+pub mod Turns
+pub mod Runs

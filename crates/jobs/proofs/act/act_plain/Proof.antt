@@ -1,0 +1,40 @@
+-- `act::act_plain` meets its contract: the view and eob are those of the definition.
+use Prim.Native.Nat.{_≤_}
+use native.Mathlib.Omega.{arith}
+use mir.Syntax.{w32}
+use mir.ValLaws.{toZ-pos}
+use borrow.Author.Tests.{leb-true}
+use Rattle.jobs.proofs.Acts.{narrow, acted-plain}
+use borrow.Author.Needs.{needs}
+use Rattle.jobs.proofs.act.act_plain.Statement.{statement}
+use Rattle.jobs.proofs.act.act_plain.Tie as tie
+
+small : (c : tie.Start) → c .args .head .announced ≤ 2147483647
+small c = leb-true (c .args .head .announced) 2147483647 (c .pre .allowed)
+
+cast-eob : tie.Need-cast-eob
+cast-eob c = let l = small (c .before .before .before .before .before .before) in search needs
+
+view-of-requires : tie.Need-view-of-requires
+view-of-requires c κs = narrow (c .before .before .before .before .before .before .before .pre)
+
+returns : tie.Need-returns
+returns c =
+    let s = c .before .before .before .before .before .before .before .before .before .before .before .before .before in
+    acted-plain (c .before .before .before .before .before .view-of .ensures) (toZ-pos w32 (s .args .head .announced) (omega (arith, small s)))
+    (c .before .before .before .inv-txfm-add .ensures)
+
+pub act-plain-spec : {M : Type 1} → statement M
+act-plain-spec =
+    tie.close
+    (tie.spec
+    (λ c. search needs)
+    (λ c. search needs)
+    (λ c. search needs)
+    (λ c. search needs)
+    cast-eob
+    view-of-requires
+    (λ c κs. search needs)
+    (λ c. search needs)
+    (λ c. search needs)
+    returns)

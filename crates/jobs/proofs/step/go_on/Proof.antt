@@ -1,0 +1,113 @@
+-- `step::go_on` meets its contract.
+use mathlib.Core.Path.{sym, ap, subst}
+use mathlib.Core.Bool.{Bool, cond}
+use Prim.Native.Nat.{_≤_}
+use native.Mathlib.Omega.{arith}
+use lib.ListN.{length-take}
+use Rattle.blockfile.specs.Answer.{RecordAt}
+use Rattle.blockfile.specs.Record.{area}
+use Rattle.blockfile.proofs.Records.{area-most}
+use Rattle.jobs.specs.declared.step.Turn.the-variants as Turn
+use Rattle.jobs.proofs.Turns.{no-record, refused-record, Found-at, whole, did}
+use borrow.Author.Needs.{needs}
+use Rattle.jobs.proofs.step.go_on.Statement.{statement}
+use Rattle.jobs.proofs.step.go_on.Tie as tie
+
+abbrev read-at : tie.After-known-told → tie.After-read-record
+read-at c = c .before .before .before .before .before
+
+abbrev entry : tie.After-read-record → tie.Start
+entry c = c .before .before .before .before .before .before
+
+-- a whole record was found
+w : (c : tie.After-known-told)
+    → let r = read-at c in
+    Found-at (entry r .args .version) (entry r .args .input .now) (entry r .args .at) (r .read-record .last .1 .1 .1 .0) (r .read-record .last .1 .1 .1 .1 .0)
+    (c .before .found .given .0 .0) (c .before .found .given .0 .1 .0)
+w c = whole (subst (RecordAt _ _ _ _ _ _ _) (c .before .found .given .1) (read-at c .read-record .ensures)) (omega arith) (omega arith)
+
+few : (c : tie.After-known-told) → area (c .before .found .given .0 .0) ≤ 1024
+few c = area-most (c .before .found .given .0 .0) (w c .can-be .size)
+
+coefficient-count-requires : tie.Need-coefficient-count-requires
+coefficient-count-requires c κs = (few c, w c .can-be .allowed)
+
+mul-n : tie.Need-mul-n
+mul-n c = omega (arith, few (c .before))
+
+cast-n : tie.Need-cast-n
+cast-n c = omega (arith, few (c .before))
+
+slice-aggregate-do-block : tie.Need-slice-aggregate-do-block
+slice-aggregate-do-block c = simp length-take (omega (arith, c .before .coefficient-count .ensures .1))
+
+array-borrow-prefix-pixels : tie.Need-array-borrow-prefix-pixels
+array-borrow-prefix-pixels c = omega (arith, few (c .before .before))
+
+slice-aggregate-do-block-2 : tie.Need-slice-aggregate-do-block-2
+slice-aggregate-do-block-2 c = simp length-take (omega (arith, few (c .before .before .before)))
+
+do-block-requires : tie.Need-do-block-requires
+do-block-requires c κs =
+    let e = c .before .before .before .before in
+    let c1 = e .before in
+    let m = e .coefficient-count .ensures in (
+      record {
+        ready = record { size = w c1 .can-be .size; allowed = w c1 .can-be .allowed; counted = simp length-take (omega (arith, m .0, m .1)) };
+        few = simp length-take (omega (arith, m .1));
+        few-pixels = simp length-take (omega (arith, few c1));
+      },
+      c .before .before .before .before .before .before .before .before .before .before .before .before .before .before .before .before .pre,
+    )
+
+returns : tie.Need-returns
+returns c =
+    let a = c .before .before .before .before .before .before .before .before .before .before .before .args in
+    no-record (a .job) (a .is-last) (omega arith) (subst (RecordAt _ _ _ _ _ _ _) (c .before .enum-told .given .1) (c .before .before .before .before .before .read-record .ensures)) (omega arith) (a .«record»)
+    (sym (ap (λ (t : Bool). cond t (Turn.Stop (a .put) (a .told)) Turn.More) (c .if1 .taken)))
+
+returns-2 : tie.Need-returns-2
+returns-2 c =
+    let e = c .before .before .before .before .before .before .before .before .before .before .before in
+    let a = e .before .before .before .before .before .before .before .before .before .before .before .before .args in
+    did (w (e .before)) (e .coefficient-count .ensures .0) (a .job) (a .is-last) (a .«record») (c .before .before .before .before .before .before .do-block .ensures)
+
+returns-3 : tie.Need-returns-3
+returns-3 c =
+    let a = c .before .before .before .before .before .before .before .before .before .before .before .args in
+    no-record (a .job) (a .is-last) (omega arith) (subst (RecordAt _ _ _ _ _ _ _) (c .before .enum-told .given .1) (c .before .before .before .before .before .read-record .ensures)) (omega arith) (a .«record»)
+    (sym (ap (λ (t : Bool). cond t (Turn.Stop (a .put) (a .told)) Turn.More) (c .if1 .left)))
+
+returns-4 : tie.Need-returns-4
+returns-4 c =
+    let a = c .before .before .before .before .before .before .before .before .before .before .before .before .before .before .before .args in
+    refused-record (a .job) (a .is-last) (omega arith)
+    (subst (RecordAt _ _ _ _ _ _ _) (c .before .before .before .before .before .found2 .given .1) (c .before .before .before .before .before .before .before .before .before .read-record .ensures)) (a .«record») (c .before .before .fallen .ensures)
+
+pub go-on-spec : {M : Type 1} → statement M
+go-on-spec =
+    tie.close
+    (tie.spec
+    (λ c. search needs)
+    (λ c. search needs)
+    (λ c κs. search needs)
+    (λ c. search needs)
+    coefficient-count-requires
+    (λ c. search needs)
+    mul-n
+    cast-n
+    (λ c. search needs)
+    slice-aggregate-do-block
+    array-borrow-prefix-pixels
+    slice-aggregate-do-block-2
+    do-block-requires
+    (λ c. search needs)
+    returns
+    (λ c. search needs)
+    (λ c κs. search needs)
+    (λ c. search needs)
+    (λ c. search needs)
+    returns-2
+    returns-3
+    (λ c. search needs)
+    returns-4)

@@ -1,0 +1,25 @@
+-- `step::has_room` meets its contract.
+use mathlib.Core.Path.{_≡_, refl, sym, _∙_}
+use mathlib.Core.Bool.{Bool, true, false}
+use Prim.Native.Nat.{ℕ, _+_, _-_, _≤_}
+use native.Mathlib.Omega.{arith}
+use lib.Dec.{leb}
+use borrow.Author.Tests.{leb-true, leb-false, le-leb, lt-leb}
+use Rattle.jobs.proofs.step.has_room.Statement.{statement}
+use Rattle.jobs.proofs.step.has_room.Tie as tie
+
+within : (length from n : ℕ) → from ≤ length → leb n (length - from) ≡ leb (from + n) length
+within length from n h = go (leb n (length - from)) refl
+  where
+    go : (t : Bool) → leb n (length - from) ≡ t → leb n (length - from) ≡ leb (from + n) length
+    go true e = e ∙ sym (le-leb (from + n) length (omega (arith, leb-true n (length - from) e)))
+    go false e = e ∙ sym (lt-leb (from + n) length (omega (arith, leb-false n (length - from) e)))
+
+returns : tie.Need-returns
+returns c = let a = c .before .args in sym (lt-leb (a .from + a .n) (a .length) (omega (arith, c .if1 .taken)))
+
+returns-2 : tie.Need-returns-2
+returns-2 c = let a = c .before .args in within (a .length) (a .from) (a .n) (omega (arith, c .if1 .left))
+
+pub has-room-spec : {M : Type 1} → statement M
+has-room-spec = tie.close (tie.spec returns returns-2)

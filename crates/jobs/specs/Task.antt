@@ -1,0 +1,78 @@
+-- What a program makes of a block file. A task says which files it takes, what is done with a record, and what is written of each record and at the end,
+-- on which stream. How a file is read, where a program stops, and how its input may arrive in pieces is said and proved once, for every task.
+use mathlib.Core.Bool.{Bool, cond}
+use mathlib.Core.List.{List, [], _∷_, _++_}
+use Prim.Native.Nat.{ℕ, suc}
+use Rattle.blockfile.specs.Form.{Form}
+use Rattle.blockfile.specs.File.{Records, all, before, File, unknown, file, readFile}
+
+-- the bytes on standard output and on standard error
+pub record Written : Type 0 where
+  pub output : List ℕ
+  pub error : List ℕ
+
+abbrev pub both : List ℕ → List ℕ → Written
+both out err = record { output = out; error = err }
+
+abbrev pub nothing : Written
+nothing = both [] []
+
+-- a before b
+abbrev pub ahead : Written → Written → Written
+ahead a b = both (a .output ++ b .output) (a .error ++ b .error)
+
+-- what acting on a record gives, or the number of a refusal
+pub data Done (A : Type 0) : Type 0 where
+  done : A → Done A
+  bad : ℕ → Done A
+
+-- how a file ends: here, or number i is refused by k (0 is the file's first number)
+pub data End : Type 0 where
+  here : End
+  refusedAt : ℕ → ℕ → End
+
+-- R is a record, S what the task keeps in mind from record to record
+pub record Task (R S : Type 0) : Type 0 where
+  -- which first numbers there are, and what records follow one
+  pub known : ℕ → Bool
+  pub form : ℕ → Form R
+  -- whether a record of this number is one too many: it is refused by 22 as soon as it begins
+  pub past : ℕ → Bool
+  pub start : S
+  -- what is written of the first number v
+  pub opening : ℕ → Written
+  -- what is kept in mind and written of record i of a file of version v, or the number of its refusal
+  pub act : ℕ → ℕ → S → R → Done (S × Written)
+  pub closing : S → End → Written
+
+module _ {R S : Type 0} (t : Task R S) where
+  -- number i begins, and w is what is written from it on
+  unfoldable pub begun : ℕ → S → Written → Written
+  begun i s w = cond (t .past i) (t .closing s (refusedAt i 22)) w
+
+  unfoldable pub judged : ℕ → S → Done (S × Written) → (S → Written) → Written
+  judged i s (done a) go = ahead (a .1) (go (a .0))
+  judged i s (bad k) go = t .closing s (refusedAt i k)
+
+  -- records of version v from number i on, and how the file ends after them
+  unfoldable pub toldOn : ℕ → ℕ → S → List R → End → Written
+  unfolding begun judged
+  toldOn v i s [] here = t .closing s here
+  toldOn v i s [] (refusedAt j k) = begun i s (t .closing s (refusedAt j k))
+  toldOn v i s (r ∷ rs) here = begun i s (judged i s (t .act v i s r) (λ s. toldOn v (suc i) s rs here))
+  toldOn v i s (r ∷ rs) (refusedAt j k) = begun i s (judged i s (t .act v i s r) (λ s. toldOn v (suc i) s rs (refusedAt j k)))
+
+  unfoldable pub told : ℕ → ℕ → S → Records R → Written
+  unfolding toldOn
+  told v i s (all rs) = toldOn v i s rs here
+  told v i s (before rs j k) = toldOn v i s rs (refusedAt j k)
+
+  unfoldable pub toldFile : File R → Written
+  unfolding told
+  toldFile (unknown k) = t .closing (t .start) (refusedAt 0 k)
+  toldFile (file v rs) = ahead (t .opening v) (told v 1 (t .start) rs)
+
+  -- what the program writes of a whole input
+  unfoldable pub run : List ℕ → Written
+  unfolding toldFile readFile
+  run bs = toldFile (readFile (t .known) (t .form) bs)
