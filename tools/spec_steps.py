@@ -298,12 +298,13 @@ def compare(lib, rng, blocks):
 
 
 def blocks_of(path):
-    from block_cases import read_number, read_record
-    b = open(path, "rb").read()
-    at = read_number(b, 0)[1]
-    while at < len(b):
-        (*head, coefs, pixels), at = read_record(b, at)
-        yield *head, list(coefs), list(pixels)
+    from block_cases import as_version_1, bytes_of, read_version, records
+    with open(path, "rb") as f:
+        bs = bytes_of(f)
+        version = read_version(bs)
+        for r in records(bs, version):
+            *head, coefs, pixels = r if version == 1 else as_version_1(r)
+            yield *head, list(coefs), list(pixels)
 
 
 def main():

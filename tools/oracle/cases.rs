@@ -107,6 +107,11 @@ impl Rng {
         (self.word() % (2 * m as u64)) as i32 - m
     }
 
+    /// A power of two from 2 to m, which is one too.
+    fn limit(&mut self, m: i32) -> i32 {
+        2 << self.below(m.ilog2() as usize)
+    }
+
     pub fn pick<T: Copy>(&mut self, from: &[T]) -> T {
         from[self.below(from.len())]
     }
@@ -126,7 +131,7 @@ fn values(rng: &mut Rng, n: usize, m: i32) -> Vec<i32> {
         2 => v[0] = rng.around(m),
         3 => v.fill_with(|| rng.around(m)),
         4 => {
-            let small = 2 << rng.below(m.ilog2() as usize);
+            let small = rng.limit(m);
             v.fill_with(|| rng.around(small));
         }
         5 => (0..=rng.below(4)).for_each(|_| v[rng.below(n)] = rng.around(m)),
@@ -178,10 +183,10 @@ pub fn damage_pass(rng: &mut Rng, call: &mut PassCall) {
     }
 }
 
-/// w·h coefficients in buffer order: in all rows, in the first few, or the first coefficient alone.
-fn coefficients(rng: &mut Rng, shape: Shape) -> Vec<i32> {
+/// w·h coefficients in buffer order: in all live rows, in the first few, or the first coefficient alone.
+fn coefficients(rng: &mut Rng, shape: Shape, live: usize) -> Vec<i32> {
     let (w, h, m) = (shape.w, shape.h, row_limit(shape.depth));
-    let rows = if rng.below(2) == 0 { h } else { 1 + rng.below(h) };
+    let rows = if rng.below(2) == 0 { live } else { 1 + rng.below(live) };
     let columns = if rng.below(3) != 0 { w } else { 1 + rng.below(w) };
     let mut coeff = vec![0; w * h];
     for (i, v) in values(rng, rows * columns, m).into_iter().enumerate() {
@@ -213,8 +218,24 @@ fn eob(rng: &mut Rng, n: usize) -> i32 {
 
 pub fn record(rng: &mut Rng, shape: Shape) -> Record {
     let Shape { w, h, txtp, depth } = shape;
-    let eob = eob(rng, w * h);
-    Record { w, h, txtp, depth, eob, coeff: coefficients(rng, shape), pixels: pixels(rng, w * h, depth) }
+    let way = Way::Plain(eob(rng, w * h));
+    Record { w, h, txtp, depth, way, coeff: coefficients(rng, shape, h), pixels: pixels(rng, w * h, depth) }
+}
+
+/// A record with r live rows, of which the last is mostly not zero. In a large block most pixels take one byte, to keep a
+/// file of all of them short.
+pub fn live_record(rng: &mut Rng, shape: Shape, r: usize) -> Record {
+    let Shape { w, h, txtp, depth } = shape;
+    let mut coeff = coefficients(rng, shape, r);
+    if rng.below(4) != 0 {
+        let m = rng.limit(row_limit(depth));
+        coeff[r - 1 + rng.below(w) * h] = rng.around(m);
+    }
+    let mut pixels = pixels(rng, w * h, depth);
+    if w * h > 64 && rng.below(16) != 0 {
+        pixels.fill_with(|| rng.below(128) as u16);
+    }
+    Record { w, h, txtp, depth, way: Way::Live(r), coeff, pixels }
 }
 
 /// How many columns and rows are visible: half of the time all.
@@ -260,7 +281,7 @@ pub fn block_call(rng: &mut Rng, record: &Record) -> BlockCall {
         columns,
         rows,
         coeff,
-        way: Way::Plain(record.eob),
+        way: record.way,
         w,
         h,
         txtp: record.txtp,
@@ -274,9 +295,9 @@ const NARROW_REFUSALS: [u64; 9] = [1, 2, 4, 5, 6, 20, 7, 8, 10];
 /// How a block is called, by turns: plain with eob 0, plain with another, live-row with an r that covers it.
 fn way(rng: &mut Rng, record: &Record, turn: usize) -> Way {
     let (h, least) = (record.h, record.live_rows());
-    match turn % 3 {
-        0 => Way::Plain(0),
-        1 => Way::Plain(record.eob.max(1)),
+    match (turn % 3, record.way) {
+        (0, _) => Way::Plain(0),
+        (1, Way::Plain(eob)) => Way::Plain(eob.max(1)),
         _ => Way::Live(least + rng.below(h + 1 - least)),
     }
 }

@@ -2,7 +2,7 @@
 
 use kernels::calls::PassCall;
 use kernels::cases::{self, Rng, Shape};
-use kernels::format::{write_number, Reader};
+use kernels::format::{write_number, Reader, Record};
 use kernels::itx::Kind;
 use kernels::words::{next_call, put, put_answer, put_call, put_outcome};
 use std::env;
@@ -18,12 +18,13 @@ fn main() {
         ["passes", seed, count] => passes(number(seed), number(count)),
         ["passes-done"] => passes_done(&input()),
         ["blocks", seed, count, ref only @ ..] => blocks(number(seed), number(count), only),
+        ["blocks-live", seed, count, ref only @ ..] => blocks_live(number(seed), number(count), only),
         ["blocks-done"] => blocks_done(&input()),
         ["blocks-8bpc", seed, count, refused] => blocks_8bpc(number(seed), number(count), number(refused)),
         ["blocks-8bpc-done"] => blocks_8bpc_done(&input()),
         _ => stop(
-            "usage: oracle passes SEED COUNT | passes-done | blocks SEED COUNT [NAME=NUMBER..] | blocks-done | \
-             blocks-8bpc SEED COUNT REFUSED | blocks-8bpc-done",
+            "usage: oracle passes SEED COUNT | passes-done | blocks SEED COUNT [NAME=NUMBER..] | \
+             blocks-live SEED COUNT [NAME=NUMBER..] | blocks-done | blocks-8bpc SEED COUNT REFUSED | blocks-8bpc-done",
         ),
     };
     if let Err(error) = io::stdout().write_all(&out) {
@@ -87,7 +88,7 @@ fn passes_done(bytes: &[u8]) -> Vec<u8> {
     out
 }
 
-fn blocks(seed: u64, count: u64, only: &[&str]) -> Vec<u8> {
+fn shapes(only: &[&str]) -> Vec<Shape> {
     let mut shapes = cases::block_shapes();
     for word in only {
         let (name, value) = word.split_once('=').unwrap_or_else(|| stop("expected NAME=NUMBER"));
@@ -103,28 +104,47 @@ fn blocks(seed: u64, count: u64, only: &[&str]) -> Vec<u8> {
     if shapes.is_empty() {
         stop("no block is like that");
     }
-    let mut rng = Rng(seed);
+    shapes
+}
+
+/// The file of that version with a record for each of COUNT turns over `kinds`.
+fn file<K: Copy>(version: u32, kinds: &[K], count: u64, mut record: impl FnMut(K) -> Record) -> Vec<u8> {
     let mut out = Vec::new();
-    write_number(&mut out, 1);
-    for shape in shapes.into_iter().cycle().take(count as usize) {
-        cases::record(&mut rng, shape).write(&mut out);
+    write_number(&mut out, version);
+    for &kind in kinds.iter().cycle().take(count as usize) {
+        record(kind).write(&mut out);
     }
     out
+}
+
+fn blocks(seed: u64, count: u64, only: &[&str]) -> Vec<u8> {
+    let mut rng = Rng(seed);
+    file(1, &shapes(only), count, |shape| cases::record(&mut rng, shape))
+}
+
+fn blocks_live(seed: u64, count: u64, only: &[&str]) -> Vec<u8> {
+    let mut rng = Rng(seed);
+    let with_rows = |shape: Shape| (1..=shape.h).map(move |r| (shape, r));
+    let kinds: Vec<(Shape, usize)> = shapes(only).into_iter().flat_map(with_rows).collect();
+    file(2, &kinds, count, |(shape, r)| cases::live_record(&mut rng, shape, r))
 }
 
 fn blocks_done(bytes: &[u8]) -> Vec<u8> {
     let mut reader = Reader(bytes);
     let mut out = Vec::new();
-    if let Err(refusal) = reader.version() {
-        eprintln!("refused 0 {refusal}");
-        return out;
-    }
-    write_number(&mut out, 1);
+    let version = match reader.version() {
+        Ok(version) => version,
+        Err(refusal) => {
+            eprintln!("refused 0 {refusal}");
+            return out;
+        }
+    };
+    write_number(&mut out, version);
     for record_number in 1u64.. {
         if reader.0.is_empty() {
             break;
         }
-        let done = reader.record().and_then(|mut record| {
+        let done = reader.record(version).and_then(|mut record| {
             let (answer, pixels, coeff) = record.call().wanted();
             (record.pixels, record.coeff) = (pixels, coeff);
             if answer.number == 0 {

@@ -42,6 +42,15 @@ not-1 : readBlocks (3 ∷ 4 ∷ []) ≡ unknown 18
 unfolding readBlocks
 not-1 = refl
 
+-- r is judged as soon as it is read, before the type and the depth, whatever follows
+wrong-rows : readBlocks (2 ∷ 4 ∷ 4 ∷ 17 ∷ 9 ∷ 5 ∷ []) ≡ file 2 (before [] 1 5)
+unfolding readBlocks
+wrong-rows = refl
+
+no-rows : readBlocks (2 ∷ 4 ∷ 4 ∷ 0 ∷ 8 ∷ 0 ∷ []) ≡ file 2 (before [] 1 5)
+unfolding readBlocks
+no-rows = refl
+
 no-records : readBlocks (1 ∷ []) ≡ file 1 (all [])
 unfolding readBlocks
 no-records = refl
@@ -72,3 +81,18 @@ known : readBlocks (1 ∷ 4 ∷ 4 ∷ 0 ∷ 8 ∷ 0 ∷ 128 ∷ 1 ∷ (replicate
     } ∷ []))
 unfolding readBlocks
 known = refl
+
+-- "A reader of version 1 only refuses version 2 by number 18" (E11), whatever follows
+old-reader : (bs : List ℕ) → readFile (λ v. eqb v 1) form (2 ∷ bs) ≡ unknown 18
+unfolding readFile
+old-reader bs = refl
+
+-- version 2: 4x4, one live row of 64, 0, 0, 0
+live : readBlocks (2 ∷ 4 ∷ 4 ∷ 0 ∷ 8 ∷ 1 ∷ 128 ∷ 1 ∷ (replicate 3 0 ++ replicate 16 100))
+    ≡ file 2 (all (record {
+      head = record { w = 4; h = 4; txtp = 0; depth = 8; announced = 1 };
+      coefficients = pos 64 ∷ replicate 3 (pos 0);
+      pixels = replicate 16 100;
+    } ∷ []))
+unfolding readBlocks
+live = refl

@@ -4,6 +4,7 @@ pub mod Handing
 pub mod Held
 pub mod Laying
 pub mod Zeros
+pub mod Versions
 pub mod Acts
 pub mod Turns
 pub mod Runs

@@ -3,5 +3,6 @@ pub mod Task
 pub mod Steps
 pub mod Rows
 pub mod Act
+pub mod Rewrite
 pub mod Output
 pub mod Answer

@@ -75,7 +75,7 @@ fn fallen(
 fn is_known(version: u32) -> bool
     ensures { λ r. ⌜ r ≡ known version ⌝ }
 {
-    version == 1
+    (version == 1) | (version == 2)
 }
 
 // The first number.

@@ -1,0 +1,133 @@
+-- "A file of version 2, rewritten as version 1 with eob 1, gives the same pixels .. 10 can't occur in version 2" (E11).
+use mathlib.Core.Path.{_≡_, refl, sym, ap, _∙_, subst⁻¹}
+use mathlib.Core.Bool.{Bool, true, false, cond}
+use mathlib.Core.List.{List, [], _∷_, map}
+use Prim.Native.Nat.{ℕ, zero, suc, _+_, _*_, _/_, _%_, _≤_, _<_}
+use native.Mathlib.Nat.{mod-eq-of-lt, add-mul-mod-self-right, mul-le-mul-right}
+use native.Mathlib.Omega.{arith}
+use borrow.Author.Tests.{leb-true, le-ltb}
+use lib.Dec.{eqb, ltb, leb}
+use lib.IntN.{ℤ, pos}
+use lib.ListN.{length, getD}
+use mir.Syntax.{w32}
+use mir.Val.{SFits}
+use Rattle.whole.specs.Lists.{at, tab}
+use Rattle.whole.proofs.Counts.{tab-at, map-length}
+use Rattle.coefs.specs.Coefs.{Covers}
+use Rattle.itx.specs.Calls.{Outcome}
+use Rattle.itx.proofs.Numbers.{plain-never-10}
+use Rattle.itx.proofs.Demand3.{live-plain}
+use Rattle.blockfile.specs.Form.{Each}
+use Rattle.blockfile.specs.Record.{Block, count, Plain}
+use Rattle.blockfile.specs.File.{Records, all, before, after, file, readBlocks, writeBlocks}
+use Rattle.blockfile.proofs.Records.{both}
+use Rattle.blockfile.proofs.Files.{blocks-back, blocks-only}
+use Rattle.jobs.specs.Rows.{spread}
+use Rattle.jobs.specs.Task.{done, bad}
+use Rattle.jobs.specs.Act.{given, call, left, act, judgedBlock, actedOn}
+use Rattle.jobs.specs.Rewrite.{asOne, pictures}
+
+-- ---- a record of version 2 is its rewriting
+
+-- the rows after the live ones are zero
+pub spread-covers : (w h r : ℕ) (cs : List ℤ) → Covers w h (spread w h r cs) r
+spread-covers w h r cs y x from below inside =
+    let i = y + x * h in
+    let few : i < w * h = omega (arith, mul-le-mul-right {m = suc x} {n = w} h inside) in
+    let row : i % h ≡ y = add-mul-mod-self-right y x h ∙ mod-eq-of-lt below in
+    tab-at (w * h) (λ j. cond (ltb (j % h) r) (at cs (j % h * w + j / h)) (pos 0)) (pos 0) i few
+    ∙ ap (λ (t : Bool). cond t (at cs (i % h * w + i / h)) (pos 0)) (ap (λ (j : ℕ). ltb j r) row ∙ le-ltb y r from)
+
+pub rows-in : (b : Block) → Plain 2 b → (1 ≤ b .head .announced) × (b .head .announced ≤ b .head .h)
+rows-in b p =
+    let e = both (leb 1 (b .head .announced)) (leb (b .head .announced) (b .head .h)) (p .allowed) in
+    (leb-true 1 (b .head .announced) (e .0), leb-true (b .head .announced) (b .head .h) (e .1))
+
+-- the whole outcome is the same: answer, pixels and the block's coefficients
+pub same-call : (b : Block) → Plain 2 b → call 2 b ≡ call 1 (asOne b)
+same-call b p =
+    let r = rows-in b p in
+    let h = b .head in
+    live-plain (given 2 b) (h .announced) (r .0) (r .1) (spread-covers (h .w) (h .h) (h .announced) (b .coefficients))
+
+-- so 10 does not occur
+pub never-stray : (b : Block) → Plain 2 b → call 2 b .answer .number ≡ 10 → ⊥
+never-stray b p e = plain-never-10 (given 1 (asOne b)) (pos 1) (sym (ap (λ (o : Outcome). o .answer .number) (same-call b p)) ∙ e)
+
+-- ---- a file of version 1 can hold it
+
+each-at : {A : Type 0} (P : A → Type 0) (z : A) → P z → (n : ℕ) (xs : List A) → Each P n xs → (i : ℕ) → P (getD xs i z)
+unfolding Each
+each-at P z pz zero [] h i = pz
+each-at P z pz zero (x ∷ xs) h i = absurd h
+each-at P z pz (suc n) [] h i = absurd h
+each-at P z pz (suc n) (x ∷ xs) h zero = h .0
+each-at P z pz (suc n) (x ∷ xs) h (suc i) = each-at P z pz n xs (h .1) i
+
+each-tab : {A : Type 0} (P : A → Type 0) (n : ℕ) (f : ℕ → A) → ((i : ℕ) → P (f i)) → Each P n (tab n f)
+unfolding Each
+each-tab P zero f h = tt
+each-tab P (suc n) f h = (h zero, each-tab P n (λ i. f (suc i)) (λ i. h (suc i)))
+
+pub one-plain : (b : Block) → Plain 2 b → Plain 1 (asOne b)
+one-plain b p = record {
+  size = p .size;
+  txtp = p .txtp;
+  depth = p .depth;
+  announced = omega arith;
+  allowed = refl;
+  coefficients = each-tab (SFits w32) (b .head .w * b .head .h) _ (λ i. go _ (ltb (i % b .head .h) (b .head .announced)));
+  pixels = p .pixels;
+}
+  where
+    zero-fits : SFits w32 (pos 0)
+    zero-fits = record { sfits = omega arith }
+
+    go : (j : ℕ) (t : Bool) → SFits w32 (cond t (at (b .coefficients) j) (pos 0))
+    go j true = each-at (SFits w32) (pos 0) zero-fits (count 2 (b .head)) (b .coefficients) (p .coefficients) j
+    go j false = zero-fits
+
+pub each-mapped : {A C : Type 0} {P : A → Type 0} (Q : C → Type 0) (f : A → C) → ((x : A) → P x → Q (f x)) → (n : ℕ) (xs : List A) → Each P n xs
+    → Each Q n (map f xs)
+unfolding Each
+each-mapped Q f g zero [] h = tt
+each-mapped Q f g zero (x ∷ xs) h = absurd h
+each-mapped Q f g (suc n) [] h = absurd h
+each-mapped Q f g (suc n) (x ∷ xs) h = (g x (h .0), each-mapped Q f g n xs (h .1))
+
+-- files whose records are changed one by one
+pub all-mapped : {v w : ℕ} (f : Block → Block) → ((b : Block) → Plain v b → Plain w (f b)) → (bs : List Block) → Each (Plain v) (length bs) bs
+    → Each (Plain w) (length (map f bs)) (map f bs)
+all-mapped {w = w} f g bs h = subst⁻¹ (λ (n : ℕ). Each (Plain w) n (map f bs)) (map-length f bs) (each-mapped (Plain w) f g (length bs) bs h)
+
+-- ---- a file
+
+pictures-after : (b : Block) (rs : Records Block) → pictures (after b rs) ≡ after (b .pixels) (pictures rs)
+unfolding after
+pictures-after b (all bs) = refl
+pictures-after b (before bs i k) = refl
+
+same-one : (i k : ℕ) (x y : Block) → x .pixels ≡ y .pixels → (m n : Records Block) → pictures m ≡ pictures n → (t : Bool)
+    → pictures (judgedBlock i (cond t (done x) (bad k)) m) ≡ pictures (judgedBlock i (cond t (done y) (bad k)) n)
+unfolding judgedBlock
+same-one i k x y e m n f true = pictures-after x m ∙ (λ j. after (e j) (f j)) ∙ sym (pictures-after y n)
+same-one i k x y e m n f false = refl
+
+-- the records before any end
+pub same-pictures : (i : ℕ) (bs : List Block) (end : Records Block) → Each (Plain 2) (length bs) bs
+    → pictures (actedOn 2 i bs end) ≡ pictures (actedOn 1 i (map asOne bs) end)
+unfolding actedOn act left Each
+same-pictures i [] end h = refl
+same-pictures i (b ∷ bs) end h =
+    let o = call 1 (asOne b) in
+    ap (λ (o : Outcome). pictures (judgedBlock i (left 2 b o) (actedOn 2 (suc i) bs end))) (same-call b (h .0))
+    ∙ same-one i (o .answer .number) _ _ refl (actedOn 2 (suc i) bs end) (actedOn 1 (suc i) (map asOne bs) end) (same-pictures (suc i) bs end (h .1))
+    (eqb (o .answer .number) 0)
+
+-- the file rewritten is a file of version 1, and its run leaves the same pixels and stops at the same record by the same number
+pub rewritten : (xs : List ℕ) (bs : List Block) → readBlocks xs ≡ file 2 (all bs)
+    → (readBlocks (writeBlocks 1 (map asOne bs)) ≡ file 1 (all (map asOne bs)))
+    × (pictures (actedOn 2 1 bs (all [])) ≡ pictures (actedOn 1 1 (map asOne bs) (all [])))
+rewritten xs bs e =
+    let plain-blocks = blocks-only xs 2 bs e .2 in
+    (blocks-back 1 (map asOne bs) refl (all-mapped asOne one-plain bs plain-blocks), same-pictures 1 bs (all []) plain-blocks)
