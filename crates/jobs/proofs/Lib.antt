@@ -5,6 +5,7 @@ pub mod Held
 pub mod Laying
 pub mod Zeros
 pub mod Versions
+pub mod Filed
 pub mod Acts
 pub mod Turns
 pub mod Runs

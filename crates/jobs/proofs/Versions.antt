@@ -1,4 +1,5 @@
--- "A file of version 2, rewritten as version 1 with eob 1, gives the same pixels .. 10 can't occur in version 2" (E11).
+-- "A file of version 2, rewritten as version 1 with eob 1, gives the same pixels .. 10 can't occur in version 2" (E11): of the records. Of the
+-- program that reads and writes them it is `rewritten-run` in Filed.antt.
 use mathlib.Core.Path.{_≡_, refl, sym, ap, _∙_, subst⁻¹}
 use mathlib.Core.Bool.{Bool, true, false, cond}
 use mathlib.Core.List.{List, [], _∷_, map}
@@ -19,9 +20,8 @@ use Rattle.itx.proofs.Numbers.{plain-never-10}
 use Rattle.itx.proofs.Demand3.{live-plain}
 use Rattle.blockfile.specs.Form.{Each}
 use Rattle.blockfile.specs.Record.{Block, count, Plain}
-use Rattle.blockfile.specs.File.{Records, all, before, after, file, readBlocks, writeBlocks}
+use Rattle.blockfile.specs.File.{Records, all, before, after}
 use Rattle.blockfile.proofs.Records.{both}
-use Rattle.blockfile.proofs.Files.{blocks-back, blocks-only}
 use Rattle.jobs.specs.Rows.{spread}
 use Rattle.jobs.specs.Task.{done, bad}
 use Rattle.jobs.specs.Act.{given, call, left, act, judgedBlock, actedOn}
@@ -56,7 +56,7 @@ never-stray b p e = plain-never-10 (given 1 (asOne b)) (pos 1) (sym (ap (λ (o :
 
 -- ---- a file of version 1 can hold it
 
-each-at : {A : Type 0} (P : A → Type 0) (z : A) → P z → (n : ℕ) (xs : List A) → Each P n xs → (i : ℕ) → P (getD xs i z)
+pub each-at : {A : Type 0} (P : A → Type 0) (z : A) → P z → (n : ℕ) (xs : List A) → Each P n xs → (i : ℕ) → P (getD xs i z)
 unfolding Each
 each-at P z pz zero [] h i = pz
 each-at P z pz zero (x ∷ xs) h i = absurd h
@@ -64,10 +64,23 @@ each-at P z pz (suc n) [] h i = absurd h
 each-at P z pz (suc n) (x ∷ xs) h zero = h .0
 each-at P z pz (suc n) (x ∷ xs) h (suc i) = each-at P z pz n xs (h .1) i
 
-each-tab : {A : Type 0} (P : A → Type 0) (n : ℕ) (f : ℕ → A) → ((i : ℕ) → P (f i)) → Each P n (tab n f)
+pub each-tab : {A : Type 0} (P : A → Type 0) (n : ℕ) (f : ℕ → A) → ((i : ℕ) → P (f i)) → Each P n (tab n f)
 unfolding Each
 each-tab P zero f h = tt
 each-tab P (suc n) f h = (h zero, each-tab P n (λ i. f (suc i)) (λ i. h (suc i)))
+
+pub zero-fits : SFits w32 (pos 0)
+zero-fits = record { sfits = omega arith }
+
+pub fits-at : (n : ℕ) (cs : List ℤ) → Each (SFits w32) n cs → (i : ℕ) → SFits w32 (at cs i)
+fits-at = each-at (SFits w32) (pos 0) zero-fits
+
+pub spread-fits : (w h r n : ℕ) (cs : List ℤ) → Each (SFits w32) n cs → Each (SFits w32) (w * h) (spread w h r cs)
+spread-fits w h r n cs fit = each-tab (SFits w32) (w * h) _ (λ i. go (i % h * w + i / h) (ltb (i % h) r))
+  where
+    go : (j : ℕ) (t : Bool) → SFits w32 (cond t (at cs j) (pos 0))
+    go j true = fits-at n cs fit j
+    go j false = zero-fits
 
 pub one-plain : (b : Block) → Plain 2 b → Plain 1 (asOne b)
 one-plain b p = record {
@@ -76,16 +89,9 @@ one-plain b p = record {
   depth = p .depth;
   announced = omega arith;
   allowed = refl;
-  coefficients = each-tab (SFits w32) (b .head .w * b .head .h) _ (λ i. go _ (ltb (i % b .head .h) (b .head .announced)));
+  coefficients = spread-fits (b .head .w) (b .head .h) (b .head .announced) (count 2 (b .head)) (b .coefficients) (p .coefficients);
   pixels = p .pixels;
 }
-  where
-    zero-fits : SFits w32 (pos 0)
-    zero-fits = record { sfits = omega arith }
-
-    go : (j : ℕ) (t : Bool) → SFits w32 (cond t (at (b .coefficients) j) (pos 0))
-    go j true = each-at (SFits w32) (pos 0) zero-fits (count 2 (b .head)) (b .coefficients) (p .coefficients) j
-    go j false = zero-fits
 
 pub each-mapped : {A C : Type 0} {P : A → Type 0} (Q : C → Type 0) (f : A → C) → ((x : A) → P x → Q (f x)) → (n : ℕ) (xs : List A) → Each P n xs
     → Each Q n (map f xs)
@@ -123,11 +129,3 @@ same-pictures i (b ∷ bs) end h =
     ap (λ (o : Outcome). pictures (judgedBlock i (left 2 b o) (actedOn 2 (suc i) bs end))) (same-call b (h .0))
     ∙ same-one i (o .answer .number) _ _ refl (actedOn 2 (suc i) bs end) (actedOn 1 (suc i) (map asOne bs) end) (same-pictures (suc i) bs end (h .1))
     (eqb (o .answer .number) 0)
-
--- the file rewritten is a file of version 1, and its run leaves the same pixels and stops at the same record by the same number
-pub rewritten : (xs : List ℕ) (bs : List Block) → readBlocks xs ≡ file 2 (all bs)
-    → (readBlocks (writeBlocks 1 (map asOne bs)) ≡ file 1 (all (map asOne bs)))
-    × (pictures (actedOn 2 1 bs (all [])) ≡ pictures (actedOn 1 1 (map asOne bs) (all [])))
-rewritten xs bs e =
-    let plain-blocks = blocks-only xs 2 bs e .2 in
-    (blocks-back 1 (map asOne bs) refl (all-mapped asOne one-plain bs plain-blocks), same-pictures 1 bs (all []) plain-blocks)

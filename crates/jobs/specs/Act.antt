@@ -12,7 +12,7 @@ use Rattle.itx.specs.Answers as Answers
 use Rattle.blockfile.specs.Form.{number}
 use Rattle.blockfile.specs.Record.{Block, form}
 use Rattle.blockfile.specs.declared.record.Head.{Head}
-use Rattle.blockfile.specs.File.{Records, all, before, after, known}
+use Rattle.blockfile.specs.File.{Records, all, before, after, File, unknown, file, known, writeBlocks}
 use Rattle.jobs.specs.Rows.{inBuffer, inFile}
 use Rattle.text.specs.Text.{refusedLine}
 use Rattle.jobs.specs.Task.{Written, both, nothing, Done, done, bad, End, here, refusedAt, Task}
@@ -73,3 +73,23 @@ blocks = record {
   act = λ v i s b. back v (act v b);
   closing = λ s e. toldEnd e;
 }
+
+-- ---- what its run comes to
+
+-- what is left of the records of a file: they are read to its end, or up to record j, which is refused by k
+abbrev pub actedFile : ℕ → Records Block → Records Block
+actedFile v (all bs) = actedOn v 1 bs (all [])
+actedFile v (before bs j k) = actedOn v 1 bs (before [] j k)
+
+-- "the first number, if accepted, and the records before it stand in the output, nothing of the refused one does, and standard error gets one
+-- line" (E1)
+unfoldable pub shown : ℕ → Records Block → Written
+unfolding writeBlocks refusedLine
+shown v (all cs) = both (writeBlocks v cs) []
+shown v (before cs i k) = both (writeBlocks v cs) (refusedLine i k)
+
+-- "0 for the first number"
+unfoldable pub shownFile : File Block → Written
+unfolding shown
+shownFile (unknown k) = both [] (refusedLine 0 k)
+shownFile (file v rs) = shown v (actedFile v rs)

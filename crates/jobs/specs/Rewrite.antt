@@ -1,9 +1,11 @@
 -- "A file of version 2, rewritten as version 1 with eob 1, gives the same pixels" (E11): what a record of version 2 is in version 1, and the pixels.
+use mathlib.Core.Path.{_≡_}
 use mathlib.Core.List.{List, map}
 use Prim.Native.Nat.{ℕ}
 use Rattle.blockfile.specs.Record.{Block}
-use Rattle.blockfile.specs.File.{Records, all, before}
+use Rattle.blockfile.specs.File.{Records, all, before, file, readBlocks}
 use Rattle.jobs.specs.Rows.{spread}
+use Rattle.jobs.specs.Task.{Written}
 
 -- the same block with eob 1 and all of its w·h coefficients, in buffer order
 abbrev pub asOne : Block → Block
@@ -15,7 +17,25 @@ asOne b =
       pixels = b .pixels;
     }
 
+-- the records themselves, without what ends them
+abbrev pub listed : {R : Type 0} → Records R → List R
+listed (all rs) = rs
+listed (before rs i k) = rs
+
+abbrev pub pixelsOf : List Block → List (List ℕ)
+pixelsOf = map (λ b. b .pixels)
+
 -- the pixels of each record, up to a refusal: with its record's number and its own
 abbrev pub pictures : Records Block → Records (List ℕ)
-pictures (all bs) = all (map (λ b. b .pixels) bs)
-pictures (before bs i k) = before (map (λ b. b .pixels) bs) i k
+pictures (all bs) = all (pixelsOf bs)
+pictures (before bs i k) = before (pixelsOf bs) i k
+
+-- Two runs, one that writes a file of version v and one of version u: both outputs can be read, their records have the same pixels, and standard
+-- error says the same.
+pub record SamePixels (v u : ℕ) (one other : Written) : Type 0 where
+  pub blocks : List Block
+  pub others : List Block
+  pub reads : readBlocks (one .output) ≡ file v (all blocks)
+  pub other-reads : readBlocks (other .output) ≡ file u (all others)
+  pub pixels : pixelsOf blocks ≡ pixelsOf others
+  pub error : one .error ≡ other .error
