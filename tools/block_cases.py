@@ -1,21 +1,29 @@
 #!/usr/bin/env python3
-"""Makes the files of crates/block_cases: short block files, and what the program has to write of them.
+"""Makes the files of crates/block_cases: short block files, and what the programs have to write of them.
 
     tools/block_cases.py CRATE   writes CRATE/stdin and CRATE/stdout
 
-The reader here is written from E1 and E11 by itself. What a call does is known only of document 01's known results and of blocks
-without coefficients, so accepted records are among those.
+In stdin each file stands after a byte for its job, which is its place in JOBS, and its length, two bytes, low byte first. In stdout
+is what the job writes of it: to standard output, in hexadecimal, a blank, and to standard error, or the line "done" if that is
+nothing. What salvage writes is a file again, and what blocks makes of that follows in the same way.
+
+The reader and the programs are written from E1, E7, E11 and E14 by themselves. What a call does is known only of identity, of the
+shortcut, of document 01's known results and of blocks without coefficients, so accepted records are among those.
 
 A record is (w, h, type, depth, announced, coefficients, pixels), as it stands in its file. In version 1 eob is announced, and all
 coefficients follow, column by column; in version 2 r, and rows 0 to r-1, row by row.
 """
 import sys
+from collections import Counter
+from functools import partial
 from itertools import chain
 
 SIZES = {(4, 4), (4, 8), (8, 4), (4, 16), (8, 8), (8, 16), (16, 4), (16, 8), (16, 32), (32, 16), (8, 32), (16, 16), (32, 8), (32, 32)}
 ADST = (1, 2, 3, 4, 5, 6, 7, 8, 12, 13, 14, 15)
 ROW = {8: 32768, 10: 131072, 12: 524288}
+COLUMN = {8: 32768, 10: 32768, 12: 131072}
 MOST = {8: 255, 10: 1023, 12: 4095}
+SHIFT = {16: 0, 32: 0, 64: 1, 128: 1, 256: 2, 512: 1, 1024: 2}  # by w·h
 
 
 class Refused(Exception):
@@ -40,6 +48,10 @@ def record(r):
     return b"".join([number(x) for x in head] + [coefficient(c) for c in cs] + [number(p) for p in ps])
 
 
+def joined(rs):
+    return b"".join(map(record, rs))
+
+
 def changed(r, **fields):
     names = ("w", "h", "txtp", "depth", "announced", "cs", "ps")
     return tuple(fields.get(n, v) for n, v in zip(names, r))
@@ -47,6 +59,10 @@ def changed(r, **fields):
 
 def one_of(values, at, v):
     return tuple(values[:at]) + (v,) + tuple(values[at + 1:])
+
+
+def clip(v, low, high):
+    return max(low, min(v, high))
 
 
 # ---- the reader: of an iterator over the bytes of a file, so that none but a record's have to be held
@@ -99,24 +115,119 @@ def read_record(bs, version):
     return w, h, txtp, depth, announced, tuple(cs), tuple(ps)
 
 
-def records(bs, version):
-    for b in bs:
+def records(bs, version, most=None):
+    """a record after so many is refused as soon as it begins"""
+    for i, b in enumerate(bs, 1):
+        if most is not None and i > most:
+            raise Refused(22)
         yield read_record(chain((b,), bs), version)
 
 
-def run(bs, act, write, first=None):
-    """Writes the first number, or another in its place, and what act(version, record) makes of each record. Answers how it ended."""
-    i = 0
+# ---- the checks of a record that has been read, and what E14 makes of it
+
+def has_plan(r):
+    w, h, txtp, *_ = r
+    small = w * h <= 128 or (w, h) == (16, 16)
+    return txtp in (0, 9) or (txtp in (10, 11) and small) or (txtp in (*ADST, 16) and (w, h) == (4, 4))
+
+
+def refuse(r):
+    """document 01's numbers and E6's"""
+    _, _, _, depth, _, cs, ps = r
+    if not has_plan(r):
+        raise Refused(2)
+    if depth not in ROW:
+        raise Refused(3)
+    if any(not -ROW[depth] <= c < ROW[depth] for c in cs):
+        raise Refused(9)
+    if any(p > MOST[depth] for p in ps):
+        raise Refused(21)
+
+
+def mended(r):
+    """with all coefficients in range, if it meets no number before 9"""
+    _, _, _, depth, _, cs, _ = r
+    if not has_plan(r) or depth not in ROW:
+        return r
+    return changed(r, cs=tuple(clip(c, -ROW[depth], ROW[depth] - 1) for c in cs))
+
+
+# ---- the programs: what each writes of the first number, of a record, and at the end, where a refusal is its line or nothing
+
+class Blocks:
+    """act(version, record) is what becomes of a record; out and err are functions that take bytes"""
+    most = None
+
+    def __init__(self, act, out, err):
+        self.act, self.out, self.err = act, out, err
+
+    def first(self, version):
+        self.out(number(version))
+
+    def record(self, version, i, r):
+        self.out(record(self.act(version, r)))
+
+    def end(self, refusal):
+        self.err(refusal)
+
+
+class Salvage(Blocks):
+    def __init__(self, out, err):
+        super().__init__(lambda version, r: mended(r), out, err)
+
+    def record(self, version, i, r):
+        super().record(version, i, r)
+        for place, (old, new) in enumerate(zip(r[5], mended(r)[5])):
+            if old != new:
+                self.err(b"%d %d %d %d\n" % (i, place, old, new))
+
+
+class Totals(Blocks):
+    """has_mark(version, record) is the mark of a record that act takes"""
+
+    def __init__(self, act, has_mark, out, err, most=4294967295):
+        super().__init__(act, out, err)
+        self.has_mark, self.most = has_mark, most
+        self.marks, self.moves, self.met = [], [], Counter()
+
+    def first(self, version):
+        pass
+
+    def record(self, version, i, r):
+        self.moves += (abs(a - b) for a, b in zip(self.act(version, r)[6], r[6]))
+        self.marks.append(self.has_mark(version, r))
+        self.met[r[:3]] += 1
+
+    def end(self, refusal):
+        self.out(refusal or self.report())
+
+    def report(self):
+        totals = len(self.marks), sum(self.marks), sum(self.moves), max(self.moves, default=0)
+        met = (b"%d %d %d %d\n" % (*shape, n) for shape, n in sorted(self.met.items()))
+        return b"records %d\nmarked %d\nchange %d\nlargest %d\n" % totals + b"".join(met)
+
+
+def run(bs, program):
+    """answers the refusal"""
+    i, refusal = 0, b""
     try:
         version = read_version(bs)
-        write(number(first or version))
+        program.first(version)
         i = 1
-        for r in records(bs, version):
-            write(record(act(version, r)))
+        for r in records(bs, version, program.most):
+            program.record(version, i, r)
             i += 1
     except Refused as k:
-        return k.line(i)
-    return "done"
+        refusal = k.line(i).encode() + b"\n"
+    program.end(refusal)
+    return refusal
+
+
+def ran(job, f):
+    """what a job writes of a file: to standard output, to standard error"""
+    out, err = bytearray(), bytearray()
+    run(iter(f), job(out.extend, err.extend))
+    return bytes(out), bytes(err)
 
 
 # ---- a record of one version as one of the other
@@ -141,15 +252,64 @@ def as_version_2(r):
     return w, h, txtp, depth, live, tuple(cs[y + x * h] for y in range(live) for x in range(w)), ps
 
 
-# ---- document 01's known results
+# ---- what document 01 tells of a block: two rules, and its known results
+
+IDENTITY = {
+    4: lambda v: v + (1697 * v + 2048 >> 12),
+    8: lambda v: 2 * v,
+    16: lambda v: 2 * v + (1697 * v + 1024 >> 11),
+    32: lambda v: 4 * v,
+}
+
+
+def step_2(w, h, v):
+    return 181 * v + 128 >> 8 if w == 2 * h or h == 2 * w else v
+
+
+def step_4(w, h, v):
+    shift = SHIFT[w * h]
+    return v + (1 << shift >> 1) >> shift
+
+
+def step_6(r, residual):
+    return tuple(clip(p + v, 0, MOST[r[3]]) for p, v in zip(r[6], residual))
+
+
+def by_identity(version, r):
+    """IDTX: a coefficient is for the pixel of its row and column"""
+    w, h, _, depth, _, cs, _ = r if version == 1 else as_version_1(r)
+
+    def residual(v):
+        v = step_4(w, h, IDENTITY[w](step_2(w, h, v)))
+        return IDENTITY[h](clip(v, -COLUMN[depth], COLUMN[depth] - 1)) + 8 >> 4
+
+    return changed(r, cs=(0,) * len(r[5]), ps=step_6(r, (residual(cs[y + x * h]) for y in range(h) for x in range(w))))
+
+
+def by_shortcut(r):
+    """DCT_DCT with eob 0: the first coefficient is for all pixels"""
+    w, h, _, _, _, cs, ps = r
+    d = step_4(w, h, 181 * step_2(w, h, cs[0]) + 128 >> 8)
+    return changed(r, cs=(0,) + cs[1:], ps=step_6(r, [181 * d + 2176 >> 12] * len(ps)))
+
+
+def by_rule(version, r):
+    if r[2] == 9:
+        return by_identity(version, r)
+    if version == 1 and r[2] == r[4] == 0:
+        return by_shortcut(r)
+    return None
+
 
 KNOWN = {}
+MARKED = {1: [], 2: []}
 
 
 def know(version, r, after):
     """that r gets these pixels; all coefficients become 0"""
     *head, cs, _ = r
     KNOWN[version, r] = (*head, (0,) * len(cs), tuple(after))
+    assert by_rule(version, r) in (None, KNOWN[version, r])
     return r
 
 
@@ -203,38 +363,46 @@ for t in ADST:
 EMPTY[2] = [live(r, (1, r[1] - 1, r[1])[i % 3]) for i, r in enumerate(EMPTY[1])]
 WHITE = [known(4, 4, 9, depth, 1, 0, flat(4, 4, most), flat(4, 4, most)) for depth, most in MOST.items()]
 
-
-def refuse(r):
-    """document 01's checks of a record whose size is right, and E6's"""
-    w, h, txtp, depth, _, cs, ps = r
-    small = w * h <= 128 or (w, h) == (16, 16)
-    if not (txtp in (0, 9) or (txtp in (10, 11) and small) or (txtp in (*ADST, 16) and (w, h) == (4, 4))):
-        raise Refused(2)
-    if depth not in ROW:
-        raise Refused(3)
-    if any(not -ROW[depth] <= c < ROW[depth] for c in cs):
-        raise Refused(9)
-    if any(p > MOST[depth] for p in ps):
-        raise Refused(21)
+# DCT4 of 32767, 32767, 0, 0 gives 32767, 32767, 10631, -7104 and the mark: in row 0 of H_DCT; in column 0 of V_DCT, where the row pass
+# gives more, and the clip between the passes 32767 again
+ENDS = (255, 255, 255, 0)
+for txtp, second, after in ((11, 4, lambda y, x: 100 if y else ENDS[x]), (10, 1, lambda y, x: 100 if x else ENDS[y])):
+    r = changed(idtx, txtp=txtp, cs=tuple(32767 if at in (0, second) else 0 for at in range(16)))
+    for version, r in ((1, r), (2, as_version_2(r))):
+        MARKED[version].append(know(version, r, rows(4, 4, after)))
 
 
 def do(version, r):
     refuse(r)
-    return KNOWN[version, r]
+    return by_rule(version, r) or KNOWN[version, r]
+
+
+def has_mark(version, r):
+    return r in MARKED[version]
+
+
+JOBS = [partial(Blocks, do), Salvage, partial(Totals, do, has_mark), partial(Totals, do, has_mark, most=2)]
 
 
 # ---- the files
 
-def files():
-    yield b""
-    for first in (0, 2, 3, 127, 128, 4294967295):
-        yield number(first)
-        yield number(first) + record(dct)
-    for spelling in ("81 00", "82 00", "80 80 80 80 00", "80 80 80 80 10", "80 80 80 80 80", "ff ff ff ff 8f 00", "81", "82", "80 80 80 80", "01"):
-        yield bytes.fromhex(spelling)
-    for version in (1, 2):
-        for rest in after_first(version):
-            yield number(version) + rest
+LOWEST, HIGHEST = -2147483648, 2147483647
+
+
+def cases():
+    """each job's place in JOBS, with a file for it"""
+    for job, after_first in enumerate((for_blocks, for_salvage, for_totals, for_two)):
+        yield job, b""
+        for first in (0, 2, 3, 127, 128, 4294967295):
+            yield job, number(first)
+            yield job, number(first) + record(dct)
+        for spelling in ("81 00", "82 00", "80 80 80 80 00", "80 80 80 80 10", "80 80 80 80 80", "ff ff ff ff 8f 00", "81", "82"):
+            yield job, bytes.fromhex(spelling)
+        yield job, b"\x80\x80\x80\x80"
+        yield job, number(1)
+        for version in (1, 2):
+            for rest in after_first(version):
+                yield job, number(version) + rest
 
 
 def told(version, r):
@@ -242,25 +410,26 @@ def told(version, r):
     return r if version == 1 else live(r, 2)
 
 
-def after_first(version):
-    def put(*known):
-        return b"".join(record(told(version, r)) for r in known)
+def put(version, *known):
+    return joined(told(version, r) for r in known)
 
+
+def for_blocks(version):
     for r in DONE[version] + EMPTY[version]:
         yield record(r)
-    yield b"".join(record(r) for r in DONE[version])
+    yield joined(DONE[version])
     for white in WHITE:
-        yield put(white)
-    yield put(dct, *WHITE, wht)
+        yield put(version, white)
+    yield put(version, dct, *WHITE, wht)
     for bad in refused(version):
         yield bad
-        yield put(dct) + bad
-        yield put(idtx, narrow) + bad + put(dct)
+        yield put(version, dct) + bad
+        yield put(version, idtx, narrow) + bad + put(version, dct)
     head = number(4) + number(4) + number(0) + number(8)
     for cut in (number(4), head, head + b"\x81", head + b"\x80\x80\x80\x80"):
         yield cut
-        yield put(dct) + cut
-    whole = put(h_dct, wht)
+        yield put(version, dct) + cut
+    whole = put(version, h_dct, wht)
     for end in range(1, len(whole)):
         yield whole[:end]
     if version == 2:
@@ -269,8 +438,9 @@ def after_first(version):
                 yield record((w, h, 0, 8, r, (), ()))                  # 15, 5
 
 
-def refused(version):
-    base, slim = told(version, dct), told(version, narrow)
+def refused(version, block=dct):
+    """what is refused after that block's head, coefficients or pixels were changed"""
+    base, slim = told(version, block), told(version, narrow)
     *_, cs, ps = base
     size = number(4) + number(4)
     yield number(4) + number(32) + record(base)[2:]                    # 1
@@ -333,17 +503,124 @@ def bad_rows(base):
     yield record(base)[:4] + b"\x82\x80\x80\x80\x80\x00"
 
 
+def grey(version, w, h, announced, cs=(), txtp=9, depth=8):
+    """pixels of 100, and the coefficients 0 but for some, told by their place; those below 0 count from the end"""
+    n = w * (h if version == 1 else announced)
+    cs = {at % n: v for at, v in dict(cs).items()}
+    return w, h, txtp, depth, announced, tuple(cs.get(at, 0) for at in range(n)), (100,) * (w * h)
+
+
+def sizes_told(version):
+    """in version 1 a large block takes much room"""
+    return [(w, h) for w, h in sorted(SIZES) if version == 2 or w * h <= 128]
+
+
+def cut(one, two):
+    """the first cut everywhere, the second here and there"""
+    for end in chain(range(1, len(one)), range(len(one) + 1, len(one + two), 7)):
+        yield (one + two)[:end]
+
+
+def some_after(one, bads):
+    for i, bad in enumerate(bads):
+        yield one + bad if i % 3 == 0 else bad
+
+
+def for_salvage(version):
+    block = partial(grey, version)
+    two = record(block(4, 4, 2, {1: HIGHEST, -1: LOWEST}))
+    every = block(4, 4, 4, enumerate((LOWEST, HIGHEST) * 8))
+    # both sides of both ends
+    for depth, m in ROW.items():
+        edges = (-m - 1, -m, m - 1, m, LOWEST, HIGHEST)
+        each = [block(4, 4, 2, {at: v}, depth=depth) for at, v in enumerate(edges)]
+        yield from map(record, each)
+        yield joined(each)
+        yield record(block(4, 4, 3, enumerate(edges * 2), depth=depth))
+        yield record(changed(every, depth=depth))
+        # also refused by 21: mended all the same
+        yield two + record(changed(every, depth=depth, ps=one_of(every[6], 5, MOST[depth] + 1)))
+    # places in the file's order: the last of each row, in version 1 of each column
+    for w, h in ((4, 8), (8, 4), (16, 4)):
+        side = h if version == 1 else w
+        for announced in (1, h // 2 + 1, h):
+            n = w * (h if version == 1 else announced)
+            yield record(block(w, h, announced, {at: HIGHEST for at in range(side - 1, n, side)}))
+    yield joined(block(w, h, 1, {0: LOWEST, -1: HIGHEST}) for w, h in sizes_told(version))
+    if version == 1:
+        for at in (0, 5):
+            yield record(changed(shortcut, cs=one_of(shortcut[5], at, 131072)))
+    # 2 and 3: as it stands, without a line
+    for fields in ({"txtp": 17}, {"txtp": 4294967295}, {"depth": 0}, {"depth": 9}, {"depth": 4294967295}, {"txtp": 17, "depth": 9}):
+        yield record(changed(every, **fields)) + two
+    # which types a size has: after a block that blocks refuses, since nothing is known of what it makes of these
+    odd = record(changed(every, txtp=17))
+    yield odd + joined(block(4, 4, 1, {0: LOWEST}, txtp=t) for t in range(18))
+    yield odd + joined(block(4, 8, 1, {0: LOWEST}, txtp=t) for t in (0, 1, 8, 9, 10, 11, 12, 15, 16))
+    yield odd + joined(block(w, h, 1, {0: LOWEST}, txtp=10) for w, h in ((16, 8), (16, 16), (32, 8)))
+    # a record that is refused while it is read has no line
+    for at in (0, 15):
+        yield two + record(changed(every, ps=one_of(every[6], at, 65536)))
+    yield from cut(two, two)
+    yield two + record(every)
+    yield ran(Salvage, number(version) + two + record(every))[0][1:]
+    yield from some_after(two, refused(version, dct if version == 1 else idtx))
+
+
+def for_totals(version):
+    block = partial(grey, version)
+    for r in FIRST:
+        yield put(version, r)
+    for r in MARKED[version]:
+        yield record(r)
+    yield joined(DONE[version])
+    some, more = put(version, dct, wht, narrow), joined(MARKED[version]) + put(version, idtx, dct)
+    for rest in (some, more, some + more, more + some):
+        yield rest
+    types = [r for r in EMPTY[version] if r[:2] == (4, 4)] + [told(version, r) for r in (dct, h_dct, v_dct, wht)]
+    sizes = [block(w, h, 1, {0: 500, -1: -700}) for w, h in sizes_told(version)]
+    for order in (types, types[::-1], sizes[::-1], sizes[3:6] + sizes[:5]):
+        yield joined(order)
+    # the greatest distance, up and down, in the first, a middle and the last record
+    far = [changed(block(4, 4, 1, {0: ROW[d] - 1, 1: -ROW[d]}, depth=d), ps=(0, MOST[d]) + (7,) * 14) for d in MOST]
+    near = told(version, dct)
+    for order in (*([near, one, near] for one in far), far, far[::-1]):
+        yield joined(order)
+    yield from some_after(put(version, dct), refused(version))
+    yield from cut(put(version, h_dct), put(version, wht))
+
+
+def for_two(version):
+    one, two, three = (put(version, r) for r in (dct, narrow, idtx))
+    for rest in (one, one + two, one + two + three, one + two + three + one):
+        yield rest
+    for end in (1, 2, 5, len(three) - 1):
+        yield one + two + three[:end]
+    for byte in (0, 128, 255):
+        yield one + two + bytes([byte])
+    for end in (1, 5, len(two) - 1):
+        yield one + two[:end]
+    for bad in list(refused(version))[::8]:
+        yield one + bad
+        yield one + two + bad
+
+
+def paragraph(out, err):
+    return "%s %s" % (out.hex(), err.decode() or "done\n")
+
+
 def main():
     words = sys.argv[1:]
     if len(words) != 1:
         print(__doc__)
         return 2
     stdin, stdout = b"", ""
-    for f in files():
-        stdin += bytes([len(f) % 256, len(f) // 256]) + f
-        out = bytearray()
-        line = run(iter(f), do, out.extend)
-        stdout += out.hex() + " " + line + "\n"
+    for job, f in cases():
+        stdin += bytes([job, len(f) % 256, len(f) // 256]) + f
+        out, err = ran(JOBS[job], f)
+        stdout += paragraph(out, err)
+        if JOBS[job] is Salvage:
+            stdout += paragraph(*ran(JOBS[0], out))
     open(words[0] + "/stdin", "wb").write(stdin)
     open(words[0] + "/stdout", "w").write(stdout)
     return 0

@@ -238,6 +238,34 @@ pub fn live_record(rng: &mut Rng, shape: Shape, r: usize) -> Record {
     Record { w, h, txtp, depth, way: Way::Live(r), coeff, pixels }
 }
 
+/// A number past one end of -m..m-1: by one, by a few, by any, or by as much as can be.
+fn past(rng: &mut Rng, m: i32) -> i32 {
+    let most = i32::MAX - m;
+    let (few, any) = (rng.below(100) as i32, rng.below(most as usize) as i32);
+    let over = rng.pick(&[0, few, any, most]);
+    rng.pick(&[m + over, -m - 1 - over])
+}
+
+/// A record for salvage (request E14): none, some or all of its coefficients are out of range, all in a large block of
+/// identity. Now and then its type, its depth or a pixel is refused besides.
+pub fn outside_record(rng: &mut Rng, shape: Shape) -> Record {
+    let mut record = record(rng, shape);
+    let (n, m) = (record.coeff.len(), row_limit(shape.depth));
+    let all = rng.below(16) == 0 || n == 1024 && shape.txtp == 9;
+    if all {
+        record.coeff.fill_with(|| past(rng, m));
+    } else {
+        (0..rng.below(6)).for_each(|_| record.coeff[rng.below(n)] = past(rng, m));
+    }
+    match rng.below(16) {
+        0 => record.txtp = rng.pick(&[10, 16, 17, 255, u32::MAX as usize]),
+        1 => record.depth = rng.pick(&[0, 9, 11, 16, u32::MAX as usize]),
+        2 => record.pixels[rng.below(n)] = rng.pick(&[maximum(shape.depth) + 1, u16::MAX]),
+        _ => {}
+    }
+    record
+}
+
 /// How many columns and rows are visible: half of the time all.
 fn visible(rng: &mut Rng, w: usize, h: usize) -> (usize, usize) {
     let some = (1 + rng.below(w), 1 + rng.below(h));

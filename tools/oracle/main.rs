@@ -5,6 +5,7 @@ use kernels::cases::{self, Rng, Shape};
 use kernels::format::{write_number, Reader, Record};
 use kernels::itx::Kind;
 use kernels::words::{next_call, put, put_answer, put_call, put_outcome};
+use std::collections::BTreeMap;
 use std::env;
 use std::io::{self, Read, Write};
 use std::process::exit;
@@ -19,12 +20,15 @@ fn main() {
         ["passes-done"] => passes_done(&input()),
         ["blocks", seed, count, ref only @ ..] => blocks(number(seed), number(count), only),
         ["blocks-live", seed, count, ref only @ ..] => blocks_live(number(seed), number(count), only),
+        ["blocks-outside", seed, count, ref only @ ..] => blocks_outside(number(seed), number(count), only),
         ["blocks-done"] => blocks_done(&input()),
+        ["totals"] => totals(&input()),
         ["blocks-8bpc", seed, count, refused] => blocks_8bpc(number(seed), number(count), number(refused)),
         ["blocks-8bpc-done"] => blocks_8bpc_done(&input()),
         _ => stop(
             "usage: oracle passes SEED COUNT | passes-done | blocks SEED COUNT [NAME=NUMBER..] | \
-             blocks-live SEED COUNT [NAME=NUMBER..] | blocks-done | blocks-8bpc SEED COUNT REFUSED | blocks-8bpc-done",
+             blocks-live SEED COUNT [NAME=NUMBER..] | blocks-outside SEED COUNT [NAME=NUMBER..] | blocks-done | totals | \
+             blocks-8bpc SEED COUNT REFUSED | blocks-8bpc-done",
         ),
     };
     if let Err(error) = io::stdout().write_all(&out) {
@@ -122,6 +126,11 @@ fn blocks(seed: u64, count: u64, only: &[&str]) -> Vec<u8> {
     file(1, &shapes(only), count, |shape| cases::record(&mut rng, shape))
 }
 
+fn blocks_outside(seed: u64, count: u64, only: &[&str]) -> Vec<u8> {
+    let mut rng = Rng(seed);
+    file(1, &shapes(only), count, |shape| cases::outside_record(&mut rng, shape))
+}
+
 fn blocks_live(seed: u64, count: u64, only: &[&str]) -> Vec<u8> {
     let mut rng = Rng(seed);
     let with_rows = |shape: Shape| (1..=shape.h).map(move |r| (shape, r));
@@ -129,39 +138,72 @@ fn blocks_live(seed: u64, count: u64, only: &[&str]) -> Vec<u8> {
     file(2, &kinds, count, |(shape, r)| cases::live_record(&mut rng, shape, r))
 }
 
-fn blocks_done(bytes: &[u8]) -> Vec<u8> {
+/// A record, and what its call left.
+struct Done {
+    record: Record,
+    mark: bool,
+    pixels: Vec<u16>,
+    coeff: Vec<i32>,
+}
+
+fn done(record: Record) -> Result<Done, u64> {
+    let (answer, pixels, coeff) = record.call().wanted();
+    match answer.number {
+        0 => Ok(Done { record, mark: answer.mark, pixels, coeff }),
+        refusal => Err(refusal),
+    }
+}
+
+/// The version of a file, its records done, and the line of the refusal before which they stand.
+fn file_done(bytes: &[u8]) -> (Option<u32>, Vec<Done>, Option<String>) {
     let mut reader = Reader(bytes);
-    let mut out = Vec::new();
+    let mut records = Vec::new();
     let version = match reader.version() {
         Ok(version) => version,
-        Err(refusal) => {
-            eprintln!("refused 0 {refusal}");
-            return out;
-        }
+        Err(refusal) => return (None, records, Some(format!("refused 0 {refusal}"))),
     };
-    write_number(&mut out, version);
-    for record_number in 1u64.. {
-        if reader.0.is_empty() {
-            break;
-        }
-        let done = reader.record(version).and_then(|mut record| {
-            let (answer, pixels, coeff) = record.call().wanted();
-            (record.pixels, record.coeff) = (pixels, coeff);
-            if answer.number == 0 {
-                Ok(record)
-            } else {
-                Err(answer.number)
-            }
-        });
-        match done {
-            Ok(record) => record.write(&mut out),
+    while !reader.0.is_empty() {
+        match reader.record(version).and_then(done) {
+            Ok(done) => records.push(done),
             Err(refusal) => {
-                eprintln!("refused {record_number} {refusal}");
-                break;
+                let line = format!("refused {} {refusal}", records.len() + 1);
+                return (Some(version), records, Some(line));
             }
         }
     }
+    (Some(version), records, None)
+}
+
+fn blocks_done(bytes: &[u8]) -> Vec<u8> {
+    let (version, records, refusal) = file_done(bytes);
+    let mut out = Vec::new();
+    version.into_iter().for_each(|version| write_number(&mut out, version));
+    for Done { record, pixels, coeff, .. } in records {
+        Record { pixels, coeff, ..record }.write(&mut out);
+    }
+    refusal.into_iter().for_each(|line| eprintln!("{line}"));
     out
+}
+
+/// Number 22 is not here: no file in memory has so many records.
+fn totals(bytes: &[u8]) -> Vec<u8> {
+    let (_, records, refusal) = file_done(bytes);
+    if let Some(line) = refusal {
+        return format!("{line}\n").into();
+    }
+    let (mut marked, mut change, mut largest, mut met) = (0u64, 0u64, 0, BTreeMap::new());
+    for Done { record, mark, pixels, .. } in &records {
+        marked += u64::from(*mark);
+        for (before, after) in record.pixels.iter().zip(pixels) {
+            let distance = before.abs_diff(*after);
+            change += u64::from(distance);
+            largest = largest.max(distance);
+        }
+        *met.entry((record.w, record.h, record.txtp)).or_insert(0u64) += 1;
+    }
+    let first = [format!("records {}\nmarked {marked}\nchange {change}\nlargest {largest}\n", records.len())];
+    let met = met.iter().map(|((w, h, txtp), count)| format!("{w} {h} {txtp} {count}\n"));
+    first.into_iter().chain(met).collect::<String>().into()
 }
 
 fn blocks_8bpc(seed: u64, count: u64, refused: u64) -> Vec<u8> {

@@ -1,6 +1,6 @@
-// Runs the block files on its standard input and writes a line for each: what the run writes to standard output, in hexadecimal, and what it
-// writes to standard error, or "done" where that is nothing. Each file stands after its length, two bytes, low byte first; tools/block_cases.py
-// makes them. Every file is run as a whole and byte by byte.
+// Runs the block files on its standard input and writes of each what the job writes to standard output, in hexadecimal, and what it writes to
+// standard error, or "done" where that is nothing; of a salvaged file also what becomes of it when its blocks are done. Each file stands after a
+// byte for the job and its length, two bytes, low byte first; tools/block_cases.py makes them. Every file is run as a whole and byte by byte.
 ghost use mathlib.Core.Path.{_≡_};
 ghost use Prim.Native.Nat.{_≤_, _<_};
 ghost use lib.ListN.{length};
@@ -24,9 +24,9 @@ fn least(a: usize, b: usize) -> usize
 }
 
 // Runs a file that arrives in pieces.
-fn run(file: &[u8], piece: usize, output: &mut [u8], error: &mut [u8]) -> Ran
-    requires { ⌜ (16384 ≡ length (now output)) × (256 ≡ length (now error)) ⌝ }
-    ensures { λ r. ⌜ (r .put ≤ 16384) × (r .told ≤ 256) ⌝ }
+fn run(job: Job, file: &[u8], piece: usize, output: &mut [u8], error: &mut [u8]) -> Ran
+    requires { ⌜ (16384 ≡ length (now output)) × (49152 ≡ length (now error)) ⌝ }
+    ensures { λ r. ⌜ (r .put ≤ 16384) × (r .told ≤ 49152) ⌝ }
 {
     let mut at: usize = 0;
     let mut have: usize = 0;
@@ -39,7 +39,7 @@ fn run(file: &[u8], piece: usize, output: &mut [u8], error: &mut [u8]) -> Ran
         turns -= 1;
         let is_last = have == file.len();
         let turn = step(
-            Job::Blocks,
+            job,
             &file[..have],
             at,
             is_last,
@@ -101,45 +101,61 @@ fn tell(output: &[u8], error: &[u8]) {
     io::write_all(1, error);
 }
 
-fn run_case(file: &[u8]) {
+fn run_case(job: Job, file: &[u8]) {
     let mut whole = [0u8; 16384];
     let mut pieces = [0u8; 16384];
-    let mut whole_error = [0u8; 256];
-    let mut pieces_error = [0u8; 256];
-    let a = run(file, file.len(), &mut whole, &mut whole_error);
-    let b = run(file, 1, &mut pieces, &mut pieces_error);
+    let mut whole_error = [0u8; 49152];
+    let mut pieces_error = [0u8; 49152];
+    let a = run(job, file, file.len(), &mut whole, &mut whole_error);
+    let b = run(job, file, 1, &mut pieces, &mut pieces_error);
     let n = a.put;
     let m = a.told;
     let k = b.put;
     let l = b.told;
-    if check::same(&whole[..n], &pieces[..k]) {
-        if check::same(&whole_error[..m], &pieces_error[..l]) {
-            tell(&whole[..n], &whole_error[..m]);
-            return;
-        }
+    if !check::same(&whole[..n], &pieces[..k]) {
+        io::write_all(1, b"differs\n");
+        return;
     }
-    io::write_all(1, b"differs\n");
+    if !check::same(&whole_error[..m], &pieces_error[..l]) {
+        io::write_all(1, b"differs\n");
+        return;
+    }
+    tell(&whole[..n], &whole_error[..m]);
+    if let Job::Salvage = job {
+        let c = run(Job::Blocks, &whole[..n], n, &mut pieces, &mut pieces_error);
+        let p = c.put;
+        let q = c.told;
+        tell(&pieces[..p], &pieces_error[..q]);
+    }
 }
 
 fn length_of(low: u8, high: u8) -> usize {
     (low as usize) + 256 * (high as usize)
 }
 
+fn job_of(n: u8) -> Job {
+    if n == 0 {
+        return Job::Blocks;
+    }
+    Job::Salvage
+}
+
 fn main() {
-    let mut input = [0u8; 65536];
+    let mut input = [0u8; 131072];
     let total = io::read_full(0, &mut input);
     let mut at: usize = 0;
     while at < total {
-        if total - at < 2 {
+        if total - at < 3 {
             return;
         }
-        let start = at + 2;
-        let n = length_of(input[at], input[at + 1]);
+        let start = at + 3;
+        let job = job_of(input[at]);
+        let n = length_of(input[at + 1], input[at + 2]);
         if total - start < n {
             return;
         }
         let end = start + n;
-        run_case(&input[start..end]);
+        run_case(job, &input[start..end]);
         at = end;
     }
 }

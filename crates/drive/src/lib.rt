@@ -78,7 +78,7 @@ fn read_failed() {
 pub fn run(job: Job) {
     let mut input = [0u8; 32768];
     let mut output = [0u8; 32768];
-    let mut error = [0u8; 256];
+    let mut error = [0u8; 49152];
     let mut at: usize = 0;
     let mut have: usize = 0;
     let mut put: usize = 0;

@@ -6,6 +6,7 @@ pub mod Laying
 pub mod Zeros
 pub mod Versions
 pub mod Filed
+pub mod Salvaged
 pub mod Acts
 pub mod Turns
 pub mod Runs

@@ -17,6 +17,7 @@ use Rattle.blockfile.proofs.Fill.{place-of}
 use Rattle.jobs.specs.Task.{Written, ahead, Done, done, bad, here, refusedAt, Task}
 use Rattle.jobs.specs.Steps.{Place, outset, before, Step, wrote, wanted, closed, number, ending, falling, opened, acting, came, step}
 use Rattle.jobs.specs.Act.{blocks}
+use Rattle.jobs.specs.Salvage.{salvage}
 use Rattle.jobs.specs.Output.{Last}
 use Rattle.jobs.specs.Answer.{Mind, taskOf, writtenIn, restOf, versionOf, turnOf, Stepped, StepAt, placeAt, roomy, Turned}
 use Rattle.jobs.specs.declared.step.Job.{Job}
@@ -28,16 +29,19 @@ use Rattle.jobs.proofs.Held.{Running, unchanged, stepped, closes}
 
 -- every job reads records of one form
 job-lawful : (j : Job) (v : ℕ) → Lawful (taskOf j .form v) (Writable v)
-unfolding blocks
+unfolding blocks salvage
 job-lawful Job.Blocks v = form-lawful v
+job-lawful Job.Salvage v = form-lawful v
 
 some-job : (j : Job) (v : ℕ) → Some (taskOf j .form v)
-unfolding blocks
+unfolding blocks salvage
 some-job Job.Blocks v = some-form v
+some-job Job.Salvage v = some-form v
 
 job-room : (j : Job) (v : ℕ) → Room (taskOf j .form v) (Writable v) 10265
-unfolding blocks
+unfolding blocks salvage
 job-room Job.Blocks v = form-room v
+job-room Job.Salvage v = form-room v
 
 -- ---- after a step that wrote, the next number follows
 

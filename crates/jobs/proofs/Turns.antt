@@ -31,7 +31,10 @@ use Rattle.blockfile.proofs.Fill.{place-of, Took, Missed}
 use Rattle.text.specs.Text.{refusedLine}
 use Rattle.jobs.specs.Task.{Written, both, nothing, Done, done, bad, here, refusedAt}
 use Rattle.jobs.specs.Steps.{Place, outset, before, Step, wrote, wanted, closed, number, ending, falling, opened, acting, came, step}
+use Rattle.mend.specs.Mend.{range}
+use Rattle.mend.specs.Inner.{Mended}
 use Rattle.jobs.specs.Act.{call, left, act, back, toldEnd, blocks}
+use Rattle.jobs.specs.Salvage.{salvage}
 use Rattle.jobs.specs.Answer.{Mind, taskOf, blockOf, Acted, writtenIn, restOf, versionOf, turnOf, Stepped, StepAt, DoneAt, placeAt, roomy, Turned, Quiet, Refused, Fallen}
 use Rattle.jobs.specs.declared.step.Job.{Job}
 use Rattle.jobs.specs.declared.step.Job.the-variants as Job
@@ -59,16 +62,20 @@ module _ {next : ℕ} {out : List ℕ} {put : ℕ} {err : List ℕ} {told : ℕ}
     error-room = omega (arith, w .place, w .room);
   }
 
-  -- bytes on standard output, and the run goes on
-  pub wrote-out : {bytes out′ : List ℕ} {end : ℕ} (q : Place Mind) (rest : List ℕ) → Put bytes out put out′ end
-      → Stepped (wrote (both bytes []) q rest) next out put err told out′ err (Turn.Wrote (versionOf q) next end told)
-  wrote-out q rest w = record {
-    output = w .elements;
-    error = refl;
-    answer = λ i. Turn.Wrote (versionOf q) next (w .place i) (plus-zero told i);
-    room = omega (arith, w .place, w .room);
-    error-room = omega arith;
-  }
+-- bytes on both streams, and the run goes on
+pub wrote-both : {next : ℕ} {out : List ℕ} {put : ℕ} {err : List ℕ} {told : ℕ} {bytes lines out′ err′ : List ℕ} {end last : ℕ} (q : Place Mind) (rest : List ℕ)
+    → Put bytes out put out′ end → Put lines err told err′ last
+    → Stepped (wrote (both bytes lines) q rest) next out put err told out′ err′ (Turn.Wrote (versionOf q) next end last)
+wrote-both {next} q rest w l = record {
+  output = w .elements;
+  error = l .elements;
+  answer = λ i. Turn.Wrote (versionOf q) next (w .place i) (l .place i);
+  room = omega (arith, w .place, w .room);
+  error-room = omega (arith, l .place, l .room);
+}
+
+put-none : (err : List ℕ) (told : ℕ) → told ≤ length err → Put [] err told err told
+put-none err told few = record { elements = refl; place = plus-zero told; room = few }
 
 -- by the step that the definition makes
 pub at-step : (j : Job) (p : Place Mind) (s : List ℕ) (at : ℕ) (last : Bool) {out : List ℕ} {put : ℕ} {err : List ℕ} {told : ℕ} {out′ err′ : List ℕ} {r : Turn} {d : Step Mind}
@@ -80,12 +87,14 @@ at-step j p s at last {out} {put} {err} {told} {out′} {err′} {r} e x =
 -- ---- the end of a run
 
 closing-refused : (j : Job) (s : Mind) (i k : ℕ) → taskOf j .closing s (refusedAt i k) ≡ both [] (refusedLine i k)
-unfolding blocks toldEnd
+unfolding blocks salvage toldEnd
 closing-refused Job.Blocks s i k = refl
+closing-refused Job.Salvage s i k = refl
 
 closing-here : (j : Job) (s : Mind) → taskOf j .closing s here ≡ nothing
-unfolding blocks toldEnd
+unfolding blocks salvage toldEnd
 closing-here Job.Blocks s = refl
+closing-here Job.Salvage s = refl
 
 pub refuses : (j : Job) (i k : ℕ) {put : ℕ} {err : List ℕ} {told : ℕ} {err′ : List ℕ} {end : ℕ} → Put (refusedLine i k) err told err′ end
     → told ≤ length err → Refused j i k put err told err′ (Turn.Stop put end)
@@ -112,12 +121,14 @@ module _ (j : Job) (k : ℕ) (last : Bool) {i put : ℕ} {err : List ℕ} {told 
 -- ---- the first number
 
 step-first : (j : Job) (last : Bool) (bs : List ℕ) → step (taskOf j) last outset bs ≡ opened (taskOf j) last (first known .read bs)
-unfolding step blocks
+unfolding step blocks salvage
 step-first Job.Blocks last bs = refl
+step-first Job.Salvage last bs = refl
 
 opening-is : (j : Job) (v : ℕ) → taskOf j .opening v ≡ both (writeNumber v) []
-unfolding blocks Form.number
+unfolding blocks salvage Form.number
 opening-is Job.Blocks v = refl
+opening-is Job.Salvage v = refl
 
 module _ (j : Job) (last : Bool) {s : List ℕ} {at : ℕ} {out : List ℕ} {put : ℕ} {err : List ℕ} {told : ℕ} (few : put ≤ length out) where
   pub no-first : {k k′ : ℕ} → Missed s at k → k′ ≡ k → {err′ : List ℕ} {r : Turn} → Fallen j k′ last 0 put err told err′ r → StepAt j outset s at last out put err told out err′ r
@@ -137,7 +148,7 @@ module _ (j : Job) (last : Bool) {s : List ℕ} {at : ℕ} {out : List ℕ} {put
         at-step j outset s at last
         (step-first j last (drop at s) ∙ rw (t .read, e) (λ i. wrote (opening-is j v i) (before v 1 (taskOf j .start)) (drop next s)))
         (subst (λ (n : ℕ). Stepped (wrote (both (writeNumber v) []) (before v 1 (taskOf j .start)) (drop next s)) n out put err told out′ err (Turn.Wrote v next end told)) place
-        (wrote-out few few′ (before v 1 (taskOf j .start)) (drop next s) w))
+        (wrote-both (before v 1 (taskOf j .start)) (drop next s) w (put-none err told few′)))
 
 -- ---- a block
 
@@ -146,29 +157,44 @@ same-write : (v : ℕ) (b : Block) → form 1 .write b ≡ form v .write b
 unfolding form
 same-write v b = refl
 
-act-is : (j : Job) (v i : ℕ) (s : Mind) (b : Block) → taskOf j .act v i s b ≡ back v (act v b)
+act-blocks : (v i : ℕ) (s : Mind) (b : Block) → blocks .act v i s b ≡ back v (act v b)
 unfolding blocks
-act-is Job.Blocks v i s b = refl
+act-blocks v i s b = refl
 
-module _ (j : Job) {v : ℕ} (i : ℕ) {b : Block} {next : ℕ} {cs : List ℤ} {ps : List ℕ} {a : Answer} (x : Acted v (b .head) (b .coefficients) (b .pixels) cs ps a)
-    {out : List ℕ} {put : ℕ} {err : List ℕ} {told : ℕ} (few : put ≤ length out) {k : ℕ} (n : k ≡ a .number) where
-  pub refused-block : (k ≡ 0 → ⊥) → {err′ : List ℕ} {r : Turn} → Refused j i k put err told err′ r → DoneAt j v i b next out put err told out err′ r
+module _ {v : ℕ} (i : ℕ) {b : Block} {next : ℕ} {cs : List ℤ} {ps : List ℕ} {a : Answer} (x : Acted v (b .head) (b .coefficients) (b .pixels) cs ps a)
+    {out : List ℕ} {put : ℕ} {err : List ℕ} {told : ℕ} {k : ℕ} (n : k ≡ a .number) where
+  pub refused-block : put ≤ length out → (k ≡ 0 → ⊥) → {err′ : List ℕ} {r : Turn} → Refused Job.Blocks i k put err told err′ r
+      → DoneAt Job.Blocks v i b next out put err told out err′ r
   unfolding act left back acting
-  refused-block h {err′} {r} y s rest =
+  refused-block few h {err′} {r} y s rest =
       let number : call v b .answer .number ≡ k = sym (n ∙ ap (λ (a : Answer). a .number) (x .answer)) in
-      let is : taskOf j .act v i s b ≡ bad k = act-is j v i s b ∙ rw (number, ne-eqb k 0 h) in
-      subst (λ (d : Done (Mind × Written)). Stepped (acting (taskOf j) v i s rest d) next out put err told out err′ r) (sym is) (y s next out few)
+      let is : blocks .act v i s b ≡ bad k = act-blocks v i s b ∙ rw (number, ne-eqb k 0 h) in
+      subst (λ (d : Done (Mind × Written)). Stepped (acting blocks v i s rest d) next out put err told out err′ r) (sym is) (y s next out few)
 
   pub done-block : k ≡ 0 → told ≤ length err → {out′ : List ℕ} {end : ℕ} → Put (form 1 .write (blockOf (b .head) cs ps)) out put out′ end
-      → DoneAt j v i b next out put err told out′ err (Turn.Wrote v next end told)
+      → DoneAt Job.Blocks v i b next out put err told out′ err (Turn.Wrote v next end told)
   unfolding act left back acting
-  done-block z few′ {out′} {end} u s rest =
+  done-block z few {out′} {end} u s rest =
       let number : call v b .answer .number ≡ 0 = sym (sym z ∙ n ∙ ap (λ (a : Answer). a .number) (x .answer)) in
       let y = blockOf (b .head) cs ps in
       let same : act v b ≡ done y = rw number (sym (λ i. done (blockOf (b .head) (x .coefficients-left (sym n ∙ z) i) (x .pixels-left i)))) in
-      let is : taskOf j .act v i s b ≡ done (tt, both (form v .write y) []) = act-is j v i s b ∙ ap (back v) same in
-      subst (λ (d : Done (Mind × Written)). Stepped (acting (taskOf j) v i s rest d) next out put err told out′ err (Turn.Wrote v next end told)) (sym is)
-      (wrote-out few few′ (before v (suc i) tt) rest (subst (λ (bytes : List ℕ). Put bytes out put out′ end) (same-write v y) u))
+      let is : blocks .act v i s b ≡ done (tt, both (form v .write y) []) = act-blocks v i s b ∙ ap (back v) same in
+      subst (λ (d : Done (Mind × Written)). Stepped (acting blocks v i s rest d) next out put err told out′ err (Turn.Wrote v next end told)) (sym is)
+      (wrote-both (before v (suc i) tt) rest (subst (λ (bytes : List ℕ). Put bytes out put out′ end) (same-write v y) u) (put-none err told few))
+
+-- a block of which the coefficients were moved
+pub mended-block : (v i : ℕ) (h : Head) {cs cs′ : List ℤ} (ps : List ℕ) (next : ℕ) {out out′ : List ℕ} {put end : ℕ} {err err′ : List ℕ} {told last : ℕ}
+    → Mended (range h) i cs cs′ err told err′ last → Put (form 1 .write (blockOf h cs′ ps)) out put out′ end
+    → DoneAt Job.Salvage v i (blockOf h cs ps) next out put err told out′ err′ (Turn.Wrote v next end last)
+unfolding acting salvage
+mended-block v i h {cs} {cs′} ps next {out} {out′} {put} {end} m u s rest =
+    wrote-both (before v (suc i) tt) rest
+    (subst (λ (bytes : List ℕ). Put bytes out put out′ end) (same-write v (blockOf h cs′ ps) ∙ (λ j. form v .write (blockOf h (m .coefficients j) ps))) u) (m .told)
+
+-- one job or the other
+pub as-job : (j k : Job) → j ≡ k → (v i : ℕ) (b : Block) (next : ℕ) (out : List ℕ) (put : ℕ) (err : List ℕ) (told : ℕ) (out′ err′ : List ℕ) (r : Turn)
+    → DoneAt k v i b next out put err told out′ err′ r → DoneAt j v i b next out put err told out′ err′ r
+as-job j k e v i b next out put err told out′ err′ r x = subst (λ (j : Job). DoneAt j v i b next out put err told out′ err′ r) (sym e) x
 
 -- ---- a record
 
@@ -178,11 +204,12 @@ module _ (j : Job) (last : Bool) (v i : ℕ) (s : Mind) where
   step-end = refl
 
   step-record : (b : ℕ) (bs : List ℕ) → step (taskOf j) last (before v i s) (b ∷ bs) ≡ came (taskOf j) last v i s (form v .read (b ∷ bs))
-  unfolding step blocks
+  unfolding step blocks salvage
   step-record b bs = go j
     where
       go : (j : Job) → step (taskOf j) last (before v i s) (b ∷ bs) ≡ came (taskOf j) last v i s (form v .read (b ∷ bs))
       go Job.Blocks = refl
+      go Job.Salvage = refl
 
 -- what reading found, by what the definition reads
 data Cases (v : ℕ) (s : List ℕ) (at : ℕ) (cs₀ cs : List ℤ) (ps₀ ps : List ℕ) (r : Found) : Type 0 where

@@ -12,6 +12,7 @@ use Rattle.blockfile.specs.Record.{Block, sized, announces, count}
 use Rattle.blockfile.specs.declared.record.Head.{Head}
 use Rattle.jobs.specs.Rows.{inFile}
 use Rattle.jobs.specs.Act.{call, blocks}
+use Rattle.jobs.specs.Salvage.{salvage}
 use Rattle.jobs.specs.Task.{Written, nothing, refusedAt, Task}
 use Rattle.jobs.specs.Steps.{Place, outset, before, Step, wrote, wanted, closed, number, falling, acting, step}
 use Rattle.jobs.specs.declared.step.Job.{Job}
@@ -26,6 +27,7 @@ Mind = Unit {0}
 -- what each job is
 abbrev pub taskOf : Job → Task Block Mind
 taskOf Job.Blocks = blocks
+taskOf Job.Salvage = salvage
 
 -- ---- a record
 
@@ -95,13 +97,13 @@ abbrev pub placeAt : ℕ → ℕ → Mind → Place Mind
 placeAt v zero s = outset
 placeAt v (suc i) s = before v (suc i) s
 
--- a record takes 10,265 bytes at most, and a line on standard error 33
+-- a record takes 10,265 bytes at most; on standard error the line of a refusal takes 33, and those of 1,024 changes 46 each
 abbrev pub roomy : List ℕ → ℕ → List ℕ → ℕ → Bool
-roomy out put err told = leb (put + 10265) (length out) && leb (told + 33) (length err)
+roomy out put err told = leb (put + 10265) (length out) && leb (told + 47104) (length err)
 
 pub record Roomy (out : List ℕ) (put : ℕ) (err : List ℕ) (told : ℕ) : Type 0 where
   pub output : put + 10265 ≤ length out
-  pub error : told + 33 ≤ length err
+  pub error : told + 47104 ≤ length err
 
 -- where the room is short, that is the answer and nothing is done
 abbrev pub Turned : Bool → Job → Place Mind → List ℕ → ℕ → Bool → List ℕ → ℕ → List ℕ → ℕ → List ℕ → List ℕ → Turn → Type 0

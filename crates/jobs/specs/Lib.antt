@@ -4,5 +4,6 @@ pub mod Steps
 pub mod Rows
 pub mod Act
 pub mod Rewrite
+pub mod Salvage
 pub mod Output
 pub mod Answer

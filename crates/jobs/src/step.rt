@@ -5,6 +5,7 @@ ghost use lib.Dec.{leb};
 ghost use lib.ListN.{length};
 ghost use Rattle.blockfile.specs.File.{known};
 ghost use Rattle.jobs.specs.Steps.{outset, before};
+ghost use Rattle.jobs.specs.declared.step.Job.the-variants as Job;
 ghost use Rattle.jobs.specs.Answer.{Mind, Whole, blockOf, Refused, Fallen, StepAt, DoneAt, placeAt, Roomy, roomy, Turned};
 use crate::act::act;
 use blockfile::number;
@@ -16,12 +17,15 @@ use blockfile::record::Head;
 use blockfile::record::coefficient_count;
 use blockfile::record::read_record;
 use blockfile::record::write_record;
+use mend::salvage;
 use text::refused_line;
 
 // What a program does with a block file.
 pub enum Job {
     // E1's and E11's: the file back with its blocks done.
     Blocks,
+    // E14's: the file back with its coefficients moved into their range.
+    Salvage,
 }
 
 // What a step did: it wrote of the first number or a record, in a file of this version, `next` being the place after what it read, `put` and
@@ -109,6 +113,62 @@ fn begin(
 }
 
 // Does the block and writes it; `next` is the place after what was read of it.
+fn call_block(
+    version: u32,
+    record: u64,
+    head: Head,
+    next: usize,
+    coefficients: &mut [i32],
+    pixels: &mut [u16],
+    output: &mut [u8],
+    put: usize,
+    error: &mut [u8],
+    told: usize,
+) -> Turn
+    requires { ⌜ Whole version head (now coefficients) (now pixels) × Roomy (now output) put (now error) told ⌝ }
+    ensures { λ r. ⌜ DoneAt Job.Blocks version «record» (blockOf head (now (coefficients .entry)) (now (pixels .entry))) next (now (output .entry)) put (now (error .entry)) told (now (output .exit)) (now (error .exit)) r ⌝ }
+{
+    let answer = act(version, head, coefficients, pixels);
+    let refusal = itx::number(answer);
+    if refusal != 0 {
+        return refuse(Job::Blocks, record, refusal, put, error, told);
+    }
+    let end = write_record(output, put, head, coefficients, pixels);
+    Turn::Wrote {
+        version,
+        next,
+        put: end,
+        told,
+    }
+}
+
+// Moves the block's coefficients into their range, tells of each, and writes the block.
+fn mend_block(
+    version: u32,
+    record: u64,
+    head: Head,
+    next: usize,
+    coefficients: &mut [i32],
+    pixels: &[u16],
+    output: &mut [u8],
+    put: usize,
+    error: &mut [u8],
+    told: usize,
+) -> Turn
+    requires { ⌜ Whole version head (now coefficients) (now pixels) × Roomy (now output) put (now error) told ⌝ }
+    ensures { λ r. ⌜ DoneAt Job.Salvage version «record» (blockOf head (now (coefficients .entry)) (now (pixels .entry))) next (now (output .entry)) put (now (error .entry)) told (now (output .exit)) (now (error .exit)) r ⌝ }
+{
+    let last = salvage(head, record, coefficients, error, told);
+    let end = write_record(output, put, head, coefficients, pixels);
+    Turn::Wrote {
+        version,
+        next,
+        put: end,
+        told: last,
+    }
+}
+
+// What the job does with the block.
 fn do_block(
     job: Job,
     version: u32,
@@ -125,17 +185,31 @@ fn do_block(
     requires { ⌜ Whole version head (now coefficients) (now pixels) × Roomy (now output) put (now error) told ⌝ }
     ensures { λ r. ⌜ DoneAt job version «record» (blockOf head (now (coefficients .entry)) (now (pixels .entry))) next (now (output .entry)) put (now (error .entry)) told (now (output .exit)) (now (error .exit)) r ⌝ }
 {
-    let answer = act(version, head, coefficients, pixels);
-    let refusal = itx::number(answer);
-    if refusal != 0 {
-        return refuse(job, record, refusal, put, error, told);
-    }
-    let end = write_record(output, put, head, coefficients, pixels);
-    Turn::Wrote {
-        version,
-        next,
-        put: end,
-        told,
+    match job {
+        Job::Blocks => call_block(
+            version,
+            record,
+            head,
+            next,
+            coefficients,
+            pixels,
+            output,
+            put,
+            error,
+            told,
+        ),
+        Job::Salvage => mend_block(
+            version,
+            record,
+            head,
+            next,
+            coefficients,
+            &*pixels,
+            output,
+            put,
+            error,
+            told,
+        ),
     }
 }
 
@@ -220,7 +294,7 @@ pub fn step(
     if !has_room(output.len(), put, 10265) {
         return Turn::Full;
     }
-    if !has_room(error.len(), told, 33) {
+    if !has_room(error.len(), told, 47104) {
         return Turn::Full;
     }
     if record == 0 {

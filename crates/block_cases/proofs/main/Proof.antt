@@ -7,7 +7,7 @@ use Rattle.block_cases.proofs.main.Statement.{statement}
 use Rattle.block_cases.proofs.main.Tie as tie
 
 abbrev Inv-loop : tie.InvT-loop
-Inv-loop input total at₀ at = (at ≤ total) × (total ≤ 65536) × (65536 ≡ length input)
+Inv-loop input total at₀ at = (at ≤ total) × (total ≤ 131072) × (131072 ≡ length input)
 
 abbrev μ-loop : tie.MeasureT-loop
 μ-loop input total at₀ at = total - at
@@ -23,6 +23,9 @@ main-spec =
     (λ c. search needs)
     (λ c. search needs)
     (λ c. search needs)
+    (λ c. search needs)
+    (λ c. search needs)
+    (λ c κs. search needs)
     (λ c. search needs)
     (λ c. search needs)
     (λ c. search needs)

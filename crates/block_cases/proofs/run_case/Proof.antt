@@ -5,29 +5,32 @@ use borrow.Author.Needs.{needs}
 use Rattle.block_cases.proofs.run_case.Statement.{statement}
 use Rattle.block_cases.proofs.run_case.Tie as tie
 
--- src/main.rt:115:20
 slice-aggregate-same : tie.Need-slice-aggregate-same
 slice-aggregate-same c = simp length-take (omega arith)
 
--- src/main.rt:115:33
 slice-aggregate-same-2 : tie.Need-slice-aggregate-same-2
 slice-aggregate-same-2 c = simp length-take (omega arith)
 
--- src/main.rt:116:24
 slice-aggregate-same-3 : tie.Need-slice-aggregate-same-3
 slice-aggregate-same-3 c = simp length-take (omega arith)
 
--- src/main.rt:116:43
 slice-aggregate-same-4 : tie.Need-slice-aggregate-same-4
 slice-aggregate-same-4 c = simp length-take (omega arith)
 
--- src/main.rt:117:18
 slice-aggregate-tell : tie.Need-slice-aggregate-tell
 slice-aggregate-tell c = simp length-take (omega arith)
 
--- src/main.rt:117:31
 slice-aggregate-tell-2 : tie.Need-slice-aggregate-tell-2
 slice-aggregate-tell-2 c = simp length-take (omega arith)
+
+slice-aggregate-run-5 : tie.Need-slice-aggregate-run-5
+slice-aggregate-run-5 c = simp length-take (omega arith)
+
+slice-aggregate-tell-3 : tie.Need-slice-aggregate-tell-3
+slice-aggregate-tell-3 c = simp length-take (omega arith)
+
+slice-aggregate-tell-4 : tie.Need-slice-aggregate-tell-4
+slice-aggregate-tell-4 c = simp length-take (omega arith)
 
 pub run-case-spec : {M : Type 1} → statement M
 run-case-spec =
@@ -45,10 +48,16 @@ run-case-spec =
     slice-aggregate-same-2
     (λ c κs. search needs)
     (λ c. search needs)
+    (λ c κs. search needs)
+    (λ c. search needs)
+    (λ c. search needs)
     slice-aggregate-same-3
     (λ c. search needs)
     slice-aggregate-same-4
     (λ c κs. search needs)
+    (λ c. search needs)
+    (λ c κs. search needs)
+    (λ c. search needs)
     (λ c. search needs)
     slice-aggregate-tell
     (λ c. search needs)
@@ -56,5 +65,15 @@ run-case-spec =
     (λ c κs. search needs)
     (λ c. search needs)
     (λ c. search needs)
+    slice-aggregate-run-5
+    (λ c. search needs)
+    (λ c. search needs)
     (λ c κs. search needs)
+    (λ c. search needs)
+    slice-aggregate-tell-3
+    (λ c. search needs)
+    slice-aggregate-tell-4
+    (λ c κs. search needs)
+    (λ c. search needs)
+    (λ c. search needs)
     (λ c. search needs))

@@ -23,10 +23,10 @@ record Held (job : Job) (input output error : List ℕ) (at have put told versio
   counted : i + turns ≤ 140737488355328
   read-few : read + turns * 32768 ≤ 4611686018427387904
   sent-few : sent + turns * 32768 ≤ 4611686018427387904
-  said-few : said + turns * 256 ≤ 36028797018963968
+  said-few : said + turns * 49152 ≤ 6917529027641081856
   input-length : 32768 ≡ length input
   output-length : 32768 ≡ length output
-  error-length : 256 ≡ length error
+  error-length : 49152 ≡ length error
 
 abbrev Inv-loop : tie.InvT-loop
 Inv-loop job input₀ output₀ error₀ at₀ have₀ put₀ told₀ version₀ record₀ read₀ sent₀ said₀ is-last₀ turns₀ input output error at have put told version «record» read sent said is-last turns =
@@ -50,7 +50,7 @@ err c = c .step .last .1 .1 .1 .1 .1 .1 .1 .1 .0
 same-output : (c : tie.After-step Inv-loop μ-loop) → 32768 ≡ length (out c)
 same-output c = omega (arith, top c .loop .inv .output-length, c .step .kept)
 
-same-error : (c : tie.After-step Inv-loop μ-loop) → 256 ≡ length (err c)
+same-error : (c : tie.After-step Inv-loop μ-loop) → 49152 ≡ length (err c)
 same-error c = omega (arith, top c .loop .inv .error-length, c .step .kept)
 
 abbrev Did : tie.After-step Inv-loop μ-loop → Turn → Type 0

@@ -14,7 +14,7 @@ use Rattle.jobs.proofs.step.step.Tie as tie
 out-room : (c : tie.Else1) → let a = c .before .before .before .before .before .args in leb (a .put + 10265) (length (a .output .now)) ≡ true
 out-room c = sym (c .before .has-room .ensures) ∙ not-false (c .before .has-room .result) (c .if1 .left)
 
-error-room : (c : tie.Else2) → let a = c .before .before .before .before .before .before .before .args in leb (a .told + 33) (length (a .error .now)) ≡ true
+error-room : (c : tie.Else2) → let a = c .before .before .before .before .before .before .before .args in leb (a .told + 47104) (length (a .error .now)) ≡ true
 error-room c = sym (c .before .has-room2 .ensures) ∙ not-false (c .before .has-room2 .result) (c .if2 .left)
 
 has-both : (c : tie.Else2) → let a = c .before .before .before .before .before .before .before .args in roomy (a .output .now) (a .put) (a .error .now) (a .told) ≡ true
@@ -28,7 +28,7 @@ returns c =
     let s = c .before .before .before .before .before in
     let a = s .args in
     let e = sym (c .before .has-room .ensures) ∙ not-true (c .before .has-room .result) (c .if1 .taken) in
-    short-room (a .job) (a .version) (a .«record») (a .input .now) (a .at) (a .is-last) (a .output .now) (a .put) (a .error .now) (a .told) (ap (λ (t : Bool). t && leb (a .told + 33) (length (a .error .now))) e)
+    short-room (a .job) (a .version) (a .«record») (a .input .now) (a .at) (a .is-last) (a .output .now) (a .put) (a .error .now) (a .told) (ap (λ (t : Bool). t && leb (a .told + 47104) (length (a .error .now))) e)
 
 returns-2 : tie.Need-returns-2
 returns-2 c =
