@@ -32,6 +32,7 @@ fn run(job: Job, file: &[u8], piece: usize, output: &mut [u8], error: &mut [u8])
     let mut have: usize = 0;
     let mut put: usize = 0;
     let mut told: usize = 0;
+    let mut sums = [0u64; 276];
     let mut version: u32 = 1;
     let mut record: u64 = 0;
     let mut turns: u32 = 65536;
@@ -45,6 +46,7 @@ fn run(job: Job, file: &[u8], piece: usize, output: &mut [u8], error: &mut [u8])
             is_last,
             version,
             record,
+            &mut sums,
             output,
             put,
             error,
@@ -66,7 +68,12 @@ fn run(job: Job, file: &[u8], piece: usize, output: &mut [u8], error: &mut [u8])
             // No file here has as much to write.
             Turn::Full => break,
             Turn::More => have += least(piece, file.len() - have),
-            Turn::Stop { put: p, told: t } => return Ran { put: p, told: t },
+            Turn::Stop { put: p, told: t } => {
+                return Ran {
+                    put: least(p, output.len()),
+                    told: least(t, error.len()),
+                };
+            }
         }
     }
     Ran { put: 0, told: 0 }
@@ -133,11 +140,14 @@ fn length_of(low: u8, high: u8) -> usize {
     (low as usize) + 256 * (high as usize)
 }
 
+// The last one has room for two records, so that 22 is reached.
 fn job_of(n: u8) -> Job {
-    if n == 0 {
-        return Job::Blocks;
+    match n {
+        0 => Job::Blocks,
+        1 => Job::Salvage,
+        2 => Job::Totals(4294967295),
+        _ => Job::Totals(2),
     }
-    Job::Salvage
 }
 
 fn main() {

@@ -79,6 +79,7 @@ pub fn run(job: Job) {
     let mut input = [0u8; 32768];
     let mut output = [0u8; 32768];
     let mut error = [0u8; 49152];
+    let mut sums = [0u64; 276];
     let mut at: usize = 0;
     let mut have: usize = 0;
     let mut put: usize = 0;
@@ -102,6 +103,7 @@ pub fn run(job: Job) {
             is_last,
             version,
             record,
+            &mut sums,
             &mut output,
             put,
             &mut error,

@@ -1,5 +1,5 @@
 -- What the loop of `rows::spread` keeps: the elements so far are laid, and the next one's row and column are at hand.
-use mathlib.Core.Path.{_≡_, refl, sym, ap, ap₂, _∙_}
+use mathlib.Core.Path.{_≡_, refl, sym, ap, _∙_}
 use mathlib.Core.Bool.{Bool, true, false, cond}
 use mathlib.Core.List.{List, [], _∷_}
 use Prim.Native.Nat.{ℕ, zero, suc, _+_, _*_, _/_, _%_, _≤_, _<_}
@@ -12,19 +12,10 @@ use lib.Dec.{ltb}
 use lib.IntN.{ℤ, pos}
 use lib.ListN.{length, replicate, set, take}
 use lib.Seq.{getD-take, take-all}
-use Rattle.whole.specs.Lists.{at, tab}
+use Rattle.whole.specs.Lists.{at}
 use Rattle.whole.proofs.Counts.{tab-ext, tab-length, replicate-tab}
+use Rattle.tally.proofs.Tabs.{set-tab}
 use Rattle.jobs.specs.Rows.{Live, spread}
-
--- a store to a list that is given by its elements
-set-tab : {A : Type 0} (n : ℕ) (f g : ℕ → A) (k : ℕ) → k < n → ((i : ℕ) → i < n → (i ≡ k → ⊥) → f i ≡ g i)
-    → set (tab n f) k (g k) ≡ tab n g
-set-tab zero f g k h e = absurd (omega arith)
-set-tab (suc n) f g zero h e =
-    ap (λ l. g zero ∷ l) (tab-ext n (λ i. f (suc i)) (λ i. g (suc i)) (λ i l. e (suc i) (omega arith) (λ q. omega arith)))
-set-tab (suc n) f g (suc k) h e =
-    ap₂ (λ x l. x ∷ l) (e zero (omega arith) (λ q. omega arith))
-    (set-tab n (λ i. f (suc i)) (λ i. g (suc i)) k (omega arith) (λ i l q. e (suc i) (omega arith) (λ s. q (omega arith))))
 
 -- one more element changes no other
 take-other : (cs : List ℤ) (j i : ℕ) → (i ≡ j → ⊥) → at (take j cs) i ≡ at (take (suc j) cs) i

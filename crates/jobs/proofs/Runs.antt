@@ -6,7 +6,7 @@ use Prim.Native.Nat.{ℕ, zero, suc, _+_, _-_, _≤_, _<_}
 use native.Mathlib.Omega.{arith}
 use native.Mathlib.Numerals.{add-one}
 use lib.Dec.{eqb}
-use lib.ListN.{length, take, drop, length-take, length-drop}
+use lib.ListN.{length, take, drop, replicate, length-take, length-drop}
 use Rattle.blockfile.specs.Read.{Read, got, refused}
 use Rattle.blockfile.specs.Record.{Block}
 use Rattle.blockfile.specs.File.{first}
@@ -14,12 +14,14 @@ use Rattle.blockfile.proofs.Forms.{Lawful}
 use Rattle.blockfile.proofs.Rooms.{Room, Some}
 use Rattle.blockfile.proofs.Records.{Writable, form-lawful, form-room, some-form}
 use Rattle.blockfile.proofs.Fill.{place-of}
+use Rattle.tally.proofs.Tallies.{none-yet}
 use Rattle.jobs.specs.Task.{Written, ahead, Done, done, bad, here, refusedAt, Task}
-use Rattle.jobs.specs.Steps.{Place, outset, before, Step, wrote, wanted, closed, number, ending, falling, opened, acting, came, step}
+use Rattle.jobs.specs.Steps.{Place, outset, before, Step, wrote, wanted, closed, number, mind, ending, falling, opened, acting, came, step}
 use Rattle.jobs.specs.Act.{blocks}
 use Rattle.jobs.specs.Salvage.{salvage}
+use Rattle.jobs.specs.Totalling.{totalling}
 use Rattle.jobs.specs.Output.{Last}
-use Rattle.jobs.specs.Answer.{Mind, taskOf, writtenIn, restOf, versionOf, turnOf, Stepped, StepAt, placeAt, roomy, Turned}
+use Rattle.jobs.specs.Answer.{Mind, taskOf, Minds, restOf, versionOf, mindAt, mindAfter, turnOf, Stepped, placeAt, roomy, Turned}
 use Rattle.jobs.specs.declared.step.Job.{Job}
 use Rattle.jobs.specs.declared.step.Job.the-variants as Job
 use Rattle.jobs.specs.declared.step.Turn.{Turn}
@@ -29,29 +31,32 @@ use Rattle.jobs.proofs.Held.{Running, unchanged, stepped, closes}
 
 -- every job reads records of one form
 job-lawful : (j : Job) (v : ℕ) → Lawful (taskOf j .form v) (Writable v)
-unfolding blocks salvage
+unfolding blocks salvage totalling
 job-lawful Job.Blocks v = form-lawful v
 job-lawful Job.Salvage v = form-lawful v
+job-lawful (Job.Totals most) v = form-lawful v
 
 some-job : (j : Job) (v : ℕ) → Some (taskOf j .form v)
-unfolding blocks salvage
+unfolding blocks salvage totalling
 some-job Job.Blocks v = some-form v
 some-job Job.Salvage v = some-form v
+some-job (Job.Totals most) v = some-form v
 
 job-room : (j : Job) (v : ℕ) → Room (taskOf j .form v) (Writable v) 10265
-unfolding blocks salvage
+unfolding blocks salvage totalling
 job-room Job.Blocks v = form-room v
 job-room Job.Salvage v = form-room v
+job-room (Job.Totals most) v = form-room v
 
 -- ---- after a step that wrote, the next number follows
 
-abbrev NextTo : Place Mind → Step Mind → Type 0
-NextTo p (wrote w q rest) = q ≡ before (versionOf q) (suc (number p)) tt
-NextTo p wanted = Unit {0}
-NextTo p (closed w) = Unit {0}
+abbrev NextTo : {S : Type 0} → Place S → Step S → Type 0
+NextTo {S} p (wrote w q rest) = (m : S) × (q ≡ before (versionOf q) (suc (number p)) m)
+NextTo {S} p wanted = Unit {0}
+NextTo {S} p (closed w) = Unit {0}
 
-module _ (t : Task Block Mind) (last : Bool) where
-  next-falling : (p : Place Mind) (k : ℕ) → NextTo p (falling t last p k)
+module _ {S : Type 0} (t : Task Block S) (last : Bool) where
+  next-falling : (p : Place S) (k : ℕ) → NextTo p (falling t last p k)
   unfolding falling
   next-falling p k = go (eqb k 15 && not last)
     where
@@ -59,12 +64,12 @@ module _ (t : Task Block Mind) (last : Bool) where
       go true = tt
       go false = tt
 
-  next-to : (p : Place Mind) (bs : List ℕ) → NextTo p (step t last p bs)
+  next-to : (p : Place S) (bs : List ℕ) → NextTo p (step t last p bs)
   unfolding step opened came acting
   next-to outset bs = go (first (t .known) .read bs)
     where
       go : (r : Read ℕ) → NextTo outset (opened t last r)
-      go (got v rest) = refl
+      go (got v rest) = (t .start, refl)
       go (refused k) = next-falling outset k
   next-to (before v i s) [] = go last
     where
@@ -73,8 +78,8 @@ module _ (t : Task Block Mind) (last : Bool) where
       go false = tt
   next-to (before v i s) (b ∷ bs) = go (t .past i) (t .form v .read (b ∷ bs))
     where
-      by : (rest : List ℕ) (a : Done (Mind × Written)) → NextTo (before v i s) (acting t v i s rest a)
-      by rest (done a) = refl
+      by : (rest : List ℕ) (a : Done (S × Written)) → NextTo (before v i s) (acting t v i s rest a)
+      by rest (done a) = (a .0, refl)
       by rest (bad k) = tt
 
       go : (l : Bool) (r : Read Block) → NextTo (before v i s) (cond l (ending t (before v i s) (refusedAt i 22)) (came t last v i s r))
@@ -82,78 +87,79 @@ module _ (t : Task Block Mind) (last : Bool) where
       go false (got x rest) = by rest (t .act v i s x)
       go false (refused k) = next-falling (before v i s) k
 
--- ---- what a step writes has room
-
-abbrev pub Inside : ℕ → ℕ → Turn → Type 0
-Inside m n (Wrote v next end told) = (end ≤ m) × (told ≤ n)
-Inside m n Full = Unit {0}
-Inside m n More = Unit {0}
-Inside m n (Stop end told) = (end ≤ m) × (told ≤ n)
-
-pub inside : (t : Bool) (j : Job) (p : Place Mind) (s : List ℕ) (at : ℕ) (last : Bool) (out : List ℕ) (put : ℕ) (err : List ℕ) (told : ℕ) (out′ err′ : List ℕ) (a : Turn)
-    → Turned t j p s at last out put err told out′ err′ a → Inside (length out) (length err) a
-inside t j p s at last out put err told out′ err′ a = go t
-  where
-    by : (d : Step Mind) {next : ℕ} → Stepped d next out put err told out′ err′ a → Inside (length out) (length err) (turnOf next put told d)
-    by (wrote w q rest) x = (x .room, x .error-room)
-    by wanted x = tt
-    by (closed w) x = (x .room, x .error-room)
-
-    go : (t : Bool) → Turned t j p s at last out put err told out′ err′ a → Inside (length out) (length err) a
-    go true x = subst (Inside (length out) (length err)) (sym (x .answer)) (by (step (taskOf j) last p (drop at s)) x)
-    go false x = subst (Inside (length out) (length err)) (sym (x .1 .1)) tt
-
-number-at : (v i : ℕ) → number (placeAt v i tt) ≡ i
-number-at v zero = refl
-number-at v (suc i) = refl
+number-at : {S : Type 0} (v i : ℕ) (m : S) → number (placeAt v i m) ≡ i
+number-at v zero m = refl
+number-at v (suc i) m = refl
 
 -- ---- after a step
 
-module _ (j : Job) (v i : ℕ) {input output error : List ℕ} {at have put told read sent said : ℕ}
-    (r : Running (taskOf j) input output error at have put told read sent said (placeAt v i tt)) (last : Bool) (output′ error′ : List ℕ) where
+module _ (j : Job) (v i : ℕ) (m : Mind j) {input output error : List ℕ} {at have put told read sent said : ℕ}
+    (r : Running (taskOf j) input output error at have put told read sent said (placeAt v i m)) (last : Bool) (sums′ output′ error′ : List ℕ) where
+  -- with what is kept in mind then, and its numbers
   abbrev pub After : Turn → Type 0
-  After (Wrote u next end end-told) = Running (taskOf j) input output′ error′ next have end end-told read sent said (placeAt u (i + 1) tt)
-  After Full = Running (taskOf j) input output′ error′ at have put told read sent said (placeAt v i tt)
-  After More = Running (taskOf j) input output′ error′ at have put told read sent said (placeAt v i tt) × (have - at < 10265)
+  After (Wrote u next end end-told) =
+      (n : Mind j) × (Running (taskOf j) input output′ error′ next have end end-told read sent said (placeAt u (i + 1) n) × Minds j sums′ (mind (taskOf j) (placeAt u (i + 1) n)))
+  After Full =
+      Running (taskOf j) input output′ error′ at have put told read sent said (placeAt v i m) × Minds j sums′ (mind (taskOf j) (placeAt v i m))
+  After More =
+      Running (taskOf j) input output′ error′ at have put told read sent said (placeAt v i m)
+      × (Minds j sums′ (mind (taskOf j) (placeAt v i m)) × (have - at < 10265))
   After (Stop end end-told) = (end ≤ length output′) × ((end-told ≤ length error′) × Last (taskOf j) last read sent said (take end output′) (take end-told error′))
 
   module _ (same : length output′ ≡ length output) (same′ : length error′ ≡ length error) where
-    stepped-to : (d : Step Mind) → step (taskOf j) last (placeAt v i tt) (drop at (take have input)) ≡ d → {a : Turn}
-        → Stepped d (length (take have input) - length (restOf d)) output put error told output′ error′ a → After a
-    stepped-to d e x = subst After (sym (x .answer)) (go d e x)
+    abbrev p : Place (Mind j)
+    p = placeAt v i m
+
+    abbrev s : List ℕ
+    s = take have input
+
+    stepped-to : (d : Step (Mind j)) → step (taskOf j) last p (drop at s) ≡ d → {a : Turn}
+        → Stepped j d (length s - length (restOf d)) output put error told output′ error′ a → Minds j sums′ (mindAfter (mind (taskOf j) p) d) → After a
+    stepped-to d e x h = subst After (sym (x .answer)) (go d e x h)
       where
-        s : List ℕ
-        s = take have input
-
-        p : Place Mind
-        p = placeAt v i tt
-
         f : Follows (taskOf j) last p (drop at s) (step (taskOf j) last p (drop at s))
         f = follows (taskOf j) (job-lawful j) (some-job j) (job-room j) last p (drop at s)
 
-        go : (d : Step Mind) → step (taskOf j) last p (drop at s) ≡ d → {a : Turn}
-            → Stepped d (length s - length (restOf d)) output put error told output′ error′ a → After (turnOf (length s - length (restOf d)) put told d)
-        go (wrote w q rest) e x =
+        go : (d : Step (Mind j)) → step (taskOf j) last p (drop at s) ≡ d → {a : Turn}
+            → Stepped j d (length s - length (restOf d)) output put error told output′ error′ a → Minds j sums′ (mindAfter (mind (taskOf j) p) d)
+            → After (turnOf (length s - length (restOf d)) put told d)
+        go (wrote w q rest) e x h =
             let g : Follows (taskOf j) last p (drop at s) (wrote w q rest) = subst (Follows (taskOf j) last p (drop at s)) e f in
             let at-rest : drop (length s - length rest) s ≡ rest = place-of s (g .1 .front) rest at (g .1 .is) in
-            let next : q ≡ placeAt (versionOf q) (i + 1) tt =
-            subst (NextTo p) e (next-to (taskOf j) last p (drop at s)) ∙ ap (λ (n : ℕ). before (versionOf q) (suc n) tt) (number-at v i)
-            ∙ ap (λ (n : ℕ). placeAt (versionOf q) n tt) (sym (add-one i)) in
-            subst (Running (taskOf j) input output′ error′ (length s - length rest) have (put + length (w .output)) (told + length (w .error)) read sent said) next
-            (stepped (taskOf j) r w (x .output) (x .error) (x .room) (x .error-room)
-            (λ more. g .0 more ∙ ap (λ (l : List ℕ). ahead w (remaining (taskOf j) q (l ++ more))) (sym at-rest)) (simp length-take (omega (arith, r .inside))) same same′)
-        go wanted e x =
+            let n : NextTo p (wrote w q rest) = subst (NextTo p) e (next-to (taskOf j) last p (drop at s)) in
+            let next : q ≡ placeAt (versionOf q) (i + 1) (n .0) =
+            n .1 ∙ ap (λ (k : ℕ). before (versionOf q) (suc k) (n .0)) (number-at v i m)
+            ∙ ap (λ (k : ℕ). placeAt (versionOf q) k (n .0)) (sym (add-one i)) in (
+              n .0,
+              (
+                subst (Running (taskOf j) input output′ error′ (length s - length rest) have (put + length (w .output)) (told + length (w .error)) read sent said) next
+                    (stepped (taskOf j) r w (x .output) (x .error) (x .room) (x .error-room)
+                    (λ more. g .0 more ∙ ap (λ (l : List ℕ). ahead w (remaining (taskOf j) q (l ++ more))) (sym at-rest)) (simp length-take (omega (arith, r .inside))) same same′),
+                subst (λ (k : ℕ). Minds j sums′ (mind (taskOf j) (placeAt (versionOf q) k (n .0)))) (sym (add-one i))
+                    (subst (λ (q : Place (Mind j)). Minds j sums′ (mindAt (mind (taskOf j) p) q)) (n .1) h),
+              ),
+            )
+        go wanted e x h =
             let g : Follows (taskOf j) last p (drop at s) wanted = subst (Follows (taskOf j) last p (drop at s)) e f in
             let few = g .1 in
-            (unchanged (taskOf j) r (x .output) (x .error), omega (arith, simp (length-drop, length-take) at few, r .inside))
-        go (closed w) e x = (
+            (unchanged (taskOf j) r (x .output) (x .error), (h, omega (arith, simp (length-drop, length-take) at few, r .inside)))
+        go (closed w) e x h = (
           omega (arith, x .room, same),
           (omega (arith, x .error-room, same′), closes (taskOf j) r w (x .output) (x .error) (x .room) (x .error-room) last (subst (Follows (taskOf j) last p (drop at s)) e f)),
         )
 
-    pub after : (a : Turn) → Turned (roomy output put error told) j (placeAt v i tt) (take have input) at last output put error told output′ error′ a → After a
-    after a x = go (roomy output put error told) x
+    pub after : (sums : List ℕ) → Minds j sums (mind (taskOf j) p) → (a : Turn)
+        → Turned (roomy j sums output put error told) j p s at last sums output put error told sums′ output′ error′ a → After a
+    after sums h a x = go (roomy j sums output put error told) x
       where
-        go : (t : Bool) → Turned t j (placeAt v i tt) (take have input) at last output put error told output′ error′ a → After a
-        go true x = stepped-to (step (taskOf j) last (placeAt v i tt) (drop at (take have input))) refl x
-        go false x = subst After (sym (x .1 .1)) (unchanged (taskOf j) r (x .0) (x .1 .0))
+        go : (t : Bool) → Turned t j p s at last sums output put error told sums′ output′ error′ a → After a
+        go true x = let y = x h in stepped-to (step (taskOf j) last p (drop at s)) refl (y .0) (y .1)
+        go false x =
+            subst After (sym (x .1 .1 .1)) (unchanged (taskOf j) r (x .1 .0) (x .1 .1 .0), subst (λ (l : List ℕ). Minds j l (mind (taskOf j) p)) (sym (x .0)) h)
+
+-- before the first number
+pub minds-none : (j : Job) → Minds j (replicate 276 0) (taskOf j .start)
+unfolding totalling
+minds-none Job.Blocks = tt
+minds-none Job.Salvage = tt
+minds-none (Job.Totals most) = none-yet

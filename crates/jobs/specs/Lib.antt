@@ -5,5 +5,6 @@ pub mod Rows
 pub mod Act
 pub mod Rewrite
 pub mod Salvage
+pub mod Totalling
 pub mod Output
 pub mod Answer

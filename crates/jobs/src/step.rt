@@ -1,12 +1,15 @@
 // One step of a job: the first number or a record is read, done and written.
 ghost use mathlib.Core.Path.{_≡_};
-ghost use Prim.Native.Nat.{_+_, _≤_};
+ghost use mathlib.Core.Bool.{true};
+ghost use mathlib.Core.List.{List};
+ghost use Prim.Native.Nat.{ℕ, _+_, _≤_};
 ghost use lib.Dec.{leb};
 ghost use lib.ListN.{length};
 ghost use Rattle.blockfile.specs.File.{known};
 ghost use Rattle.jobs.specs.Steps.{outset, before};
 ghost use Rattle.jobs.specs.declared.step.Job.the-variants as Job;
-ghost use Rattle.jobs.specs.Answer.{Mind, Whole, blockOf, Refused, Fallen, StepAt, DoneAt, placeAt, Roomy, roomy, Turned};
+ghost use Rattle.tally.specs.Totals.{Sane};
+ghost use Rattle.jobs.specs.Answer.{Mind, taskOf, isTotals, saneFor, Whole, blockOf, Refused, Fallen, Ended, StepAt, DoneAt, placeAt, Roomy, roomy, Turned};
 use crate::act::act;
 use blockfile::number;
 use blockfile::number::Number;
@@ -18,6 +21,10 @@ use blockfile::record::coefficient_count;
 use blockfile::record::read_record;
 use blockfile::record::write_record;
 use mend::salvage;
+use tally::add;
+use tally::are_sane;
+use tally::keep;
+use tally::put_report;
 use text::refused_line;
 
 // What a program does with a block file.
@@ -26,6 +33,8 @@ pub enum Job {
     Blocks,
     // E14's: the file back with its coefficients moved into their range.
     Salvage,
+    // E7's: the totals over at most so many records.
+    Totals(u32),
 }
 
 // What a step did: it wrote of the first number or a record, in a file of this version, `next` being the place after what it read, `put` and
@@ -45,11 +54,34 @@ pub enum Turn {
     },
 }
 
-// Number `record` of the file is refused by k, which ends the run.
-fn refuse(job: Job, record: u64, k: u8, put: usize, error: &mut [u8], told: usize) -> Turn
-    requires { ⌜ told + 33 ≤ length (now error) ⌝ }
-    ensures { λ r. ⌜ Refused job «record» k put (now (error .entry)) told (now (error .exit)) r ⌝ }
+// Whether a job says on standard output what it has to say, and nothing else.
+fn is_totals(job: Job) -> bool
+    ensures { λ r. ⌜ r ≡ isTotals job ⌝ }
 {
+    match job {
+        Job::Blocks => false,
+        Job::Salvage => false,
+        Job::Totals(_) => true,
+    }
+}
+
+// Number `record` of the file is refused by k, which ends the run.
+fn refuse(
+    job: Job,
+    record: u64,
+    k: u8,
+    output: &mut [u8],
+    put: usize,
+    error: &mut [u8],
+    told: usize,
+) -> Turn
+    requires { ⌜ Roomy (now output) put (now error) told ⌝ }
+    ensures { λ r. ⌜ Refused job «record» k (now (output .entry)) put (now (error .entry)) told (now (output .exit)) (now (error .exit)) r ⌝ }
+{
+    if is_totals(job) {
+        let end = refused_line(output, put, record, k);
+        return Turn::Stop { put: end, told };
+    }
     let end = refused_line(error, told, record, k);
     Turn::Stop { put, told: end }
 }
@@ -60,19 +92,43 @@ fn fallen(
     k: u8,
     is_last: bool,
     record: u64,
+    output: &mut [u8],
     put: usize,
     error: &mut [u8],
     told: usize,
 ) -> Turn
-    requires { ⌜ told + 33 ≤ length (now error) ⌝ }
-    ensures { λ r. ⌜ Fallen job k «is_last» «record» put (now (error .entry)) told (now (error .exit)) r ⌝ }
+    requires { ⌜ Roomy (now output) put (now error) told ⌝ }
+    ensures { λ r. ⌜ Fallen job k «is_last» «record» (now (output .entry)) put (now (error .entry)) told (now (output .exit)) (now (error .exit)) r ⌝ }
 {
     if k == 15 {
         if !is_last {
             return Turn::More;
         }
     }
-    refuse(job, record, k, put, error, told)
+    refuse(job, record, k, output, put, error, told)
+}
+
+// The file has ended.
+fn finish(job: Job, sums: &[u64], output: &mut [u8], put: usize, error: &[u8], told: usize) -> Turn
+    requires { ⌜ (saneFor job (now sums) ≡ true) × Roomy (now output) put (now error) told ⌝ }
+    ensures { λ r. ⌜ Ended job (now (sums .entry)) (now (output .entry)) put (now (error .entry)) told (now (output .exit)) (now (error .entry)) r ⌝ }
+{
+    if is_totals(job) {
+        let end = put_report(sums, output, put);
+        return Turn::Stop { put: end, told };
+    }
+    Turn::Stop { put, told }
+}
+
+// Whether a record of this number is one too many.
+fn is_past(job: Job, record: u64) -> bool
+    ensures { λ r. ⌜ r ≡ taskOf job .past «record» ⌝ }
+{
+    match job {
+        Job::Blocks => false,
+        Job::Salvage => false,
+        Job::Totals(most) => (most as u64) < record,
+    }
 }
 
 // Which first numbers there are.
@@ -94,16 +150,28 @@ fn begin(
     told: usize,
 ) -> Turn
     requires { ⌜ Roomy (now output) put (now error) told ⌝ }
-    ensures { λ r. ⌜ StepAt job outset (now (input .entry)) at «is_last» (now (output .entry)) put (now (error .entry)) told (now (output .exit)) (now (error .exit)) r ⌝ }
+    ensures { λ r. ⌜ ((sums : List ℕ) → StepAt job outset (now (input .entry)) at «is_last» sums (now (output .entry)) put (now (error .entry)) told sums (now (output .exit)) (now (error .exit)) r) ⌝ }
 {
     let first = read_number(input, at);
     let Number::Got { value, next } = first else {
-        return fallen(job, number::refusal(first), is_last, 0, put, error, told);
+        return fallen(
+            job,
+            number::refusal(first),
+            is_last,
+            0,
+            output,
+            put,
+            error,
+            told,
+        );
     };
     if !is_known(value) {
-        return refuse(job, 0, 18, put, error, told);
+        return refuse(job, 0, 18, output, put, error, told);
     }
-    let end = write_number(output, put, value);
+    let mut end = put;
+    if !is_totals(job) {
+        end = write_number(output, put, value);
+    }
     Turn::Wrote {
         version: value,
         next,
@@ -126,12 +194,12 @@ fn call_block(
     told: usize,
 ) -> Turn
     requires { ⌜ Whole version head (now coefficients) (now pixels) × Roomy (now output) put (now error) told ⌝ }
-    ensures { λ r. ⌜ DoneAt Job.Blocks version «record» (blockOf head (now (coefficients .entry)) (now (pixels .entry))) next (now (output .entry)) put (now (error .entry)) told (now (output .exit)) (now (error .exit)) r ⌝ }
+    ensures { λ r. ⌜ ((sums : List ℕ) → DoneAt Job.Blocks version «record» (blockOf head (now (coefficients .entry)) (now (pixels .entry))) next sums (now (output .entry)) put (now (error .entry)) told sums (now (output .exit)) (now (error .exit)) r) ⌝ }
 {
     let answer = act(version, head, coefficients, pixels);
     let refusal = itx::number(answer);
     if refusal != 0 {
-        return refuse(Job::Blocks, record, refusal, put, error, told);
+        return refuse(Job::Blocks, record, refusal, output, put, error, told);
     }
     let end = write_record(output, put, head, coefficients, pixels);
     Turn::Wrote {
@@ -156,7 +224,7 @@ fn mend_block(
     told: usize,
 ) -> Turn
     requires { ⌜ Whole version head (now coefficients) (now pixels) × Roomy (now output) put (now error) told ⌝ }
-    ensures { λ r. ⌜ DoneAt Job.Salvage version «record» (blockOf head (now (coefficients .entry)) (now (pixels .entry))) next (now (output .entry)) put (now (error .entry)) told (now (output .exit)) (now (error .exit)) r ⌝ }
+    ensures { λ r. ⌜ ((sums : List ℕ) → DoneAt Job.Salvage version «record» (blockOf head (now (coefficients .entry)) (now (pixels .entry))) next sums (now (output .entry)) put (now (error .entry)) told sums (now (output .exit)) (now (error .exit)) r) ⌝ }
 {
     let last = salvage(head, record, coefficients, error, told);
     let end = write_record(output, put, head, coefficients, pixels);
@@ -165,6 +233,41 @@ fn mend_block(
         next,
         put: end,
         told: last,
+    }
+}
+
+// Does the block and counts it.
+fn count_block(
+    most: u32,
+    version: u32,
+    record: u64,
+    head: Head,
+    next: usize,
+    coefficients: &mut [i32],
+    pixels: &mut [u16],
+    before: &mut [u16],
+    sums: &mut [u64],
+    output: &mut [u8],
+    put: usize,
+    error: &mut [u8],
+    told: usize,
+) -> Turn
+    requires { ⌜ Whole version head (now coefficients) (now pixels) × (Sane (now sums) × ((length (now pixels) ≡ length (now before)) × Roomy (now output) put (now error) told)) ⌝ }
+    ensures { λ r. ⌜ DoneAt (Job.Totals most) version «record» (blockOf head (now (coefficients .entry)) (now (pixels .entry))) next (now (sums .entry)) (now (output .entry)) put (now (error .entry)) told (now (sums .exit)) (now (output .exit)) (now (error .exit)) r ⌝ }
+{
+    keep(&*pixels, &mut *before);
+    let answer = act(version, head, coefficients, &mut *pixels);
+    let refusal = itx::number(answer);
+    if refusal != 0 {
+        return refuse(Job::Totals(most), record, refusal, output, put, error, told);
+    }
+    let mark = itx::mark(answer);
+    add(sums, head.w, head.h, head.txtp, mark, before, pixels);
+    Turn::Wrote {
+        version,
+        next,
+        put,
+        told,
     }
 }
 
@@ -177,13 +280,14 @@ fn do_block(
     next: usize,
     coefficients: &mut [i32],
     pixels: &mut [u16],
+    sums: &mut [u64],
     output: &mut [u8],
     put: usize,
     error: &mut [u8],
     told: usize,
 ) -> Turn
-    requires { ⌜ Whole version head (now coefficients) (now pixels) × Roomy (now output) put (now error) told ⌝ }
-    ensures { λ r. ⌜ DoneAt job version «record» (blockOf head (now (coefficients .entry)) (now (pixels .entry))) next (now (output .entry)) put (now (error .entry)) told (now (output .exit)) (now (error .exit)) r ⌝ }
+    requires { ⌜ Whole version head (now coefficients) (now pixels) × ((saneFor job (now sums) ≡ true) × Roomy (now output) put (now error) told) ⌝ }
+    ensures { λ r. ⌜ DoneAt job version «record» (blockOf head (now (coefficients .entry)) (now (pixels .entry))) next (now (sums .entry)) (now (output .entry)) put (now (error .entry)) told (now (sums .exit)) (now (output .exit)) (now (error .exit)) r ⌝ }
 {
     match job {
         Job::Blocks => call_block(
@@ -210,6 +314,25 @@ fn do_block(
             error,
             told,
         ),
+        Job::Totals(most) => {
+            let mut before = [0u16; 1024];
+            let n = pixels.len();
+            count_block(
+                most,
+                version,
+                record,
+                head,
+                next,
+                coefficients,
+                pixels,
+                &mut before[..n],
+                sums,
+                output,
+                put,
+                error,
+                told,
+            )
+        }
     }
 }
 
@@ -221,14 +344,20 @@ fn go_on(
     input: &[u8],
     at: usize,
     is_last: bool,
+    sums: &mut [u64],
     output: &mut [u8],
     put: usize,
     error: &mut [u8],
     told: usize,
 ) -> Turn
-    requires { ⌜ Roomy (now output) put (now error) told ⌝ }
-    ensures { λ r. ⌜ ((s : Mind) → StepAt job (before version «record» s) (now (input .entry)) at «is_last» (now (output .entry)) put (now (error .entry)) told (now (output .exit)) (now (error .exit)) r) ⌝ }
+    requires { ⌜ (saneFor job (now sums) ≡ true) × Roomy (now output) put (now error) told ⌝ }
+    ensures { λ r. ⌜ ((m : Mind job) → StepAt job (before version «record» m) (now (input .entry)) at «is_last» (now (sums .entry)) (now (output .entry)) put (now (error .entry)) told (now (sums .exit)) (now (output .exit)) (now (error .exit)) r) ⌝ }
 {
+    if at < input.len() {
+        if is_past(job, record) {
+            return refuse(job, record, 22, output, put, error, told);
+        }
+    }
     let mut coefficients = [0i32; 1024];
     let mut pixels = [0u16; 1024];
     let found = read_record(input, at, version, &mut coefficients, &mut pixels);
@@ -247,6 +376,7 @@ fn go_on(
                 next,
                 &mut coefficients[..m],
                 &mut pixels[..n],
+                sums,
                 output,
                 put,
                 error,
@@ -256,12 +386,22 @@ fn go_on(
         // No byte is left: the file ends only if none can follow.
         Found::End => {
             if is_last {
-                return Turn::Stop { put, told };
+                return finish(job, &*sums, output, put, &*error, told);
             }
             Turn::More
         }
-        Found::Refused(k) => fallen(job, k, is_last, record, put, error, told),
+        Found::Refused(k) => fallen(job, k, is_last, record, output, put, error, told),
     }
+}
+
+// Whether the numbers of the totals have room for one record more; other jobs keep none.
+fn has_numbers(job: Job, sums: &[u64]) -> bool
+    ensures { λ r. ⌜ r ≡ saneFor job (now (sums .entry)) ⌝ }
+{
+    if is_totals(job) {
+        return are_sane(sums);
+    }
+    true
 }
 
 // Whether n places from `from` on lie within so many.
@@ -275,8 +415,8 @@ fn has_room(length: usize, from: usize, n: usize) -> bool
 }
 
 // One step at the place `at` of the input: number `record` of what stands in a file of this version, where 0 is the first number, is read and
-// done. What comes of it is written at the places `put` of the output and `told` of the error output. `is_last` says that nothing follows the
-// input.
+// done. What comes of it is written at the places `put` of the output and `told` of the error output, or counted in `sums`. `is_last` says that
+// nothing follows the input.
 pub fn step(
     job: Job,
     input: &[u8],
@@ -284,13 +424,17 @@ pub fn step(
     is_last: bool,
     version: u32,
     record: u64,
+    sums: &mut [u64],
     output: &mut [u8],
     put: usize,
     error: &mut [u8],
     told: usize,
 ) -> Turn
-    ensures { λ r. ⌜ ((s : Mind) → Turned (roomy (now (output .entry)) put (now (error .entry)) told) job (placeAt version «record» s) (now (input .entry)) at «is_last» (now (output .entry)) put (now (error .entry)) told (now (output .exit)) (now (error .exit)) r) ⌝ }
+    ensures { λ r. ⌜ ((m : Mind job) → Turned (roomy job (now (sums .entry)) (now (output .entry)) put (now (error .entry)) told) job (placeAt version «record» m) (now (input .entry)) at «is_last» (now (sums .entry)) (now (output .entry)) put (now (error .entry)) told (now (sums .exit)) (now (output .exit)) (now (error .exit)) r) ⌝ }
 {
+    if !has_numbers(job, &*sums) {
+        return Turn::Full;
+    }
     if !has_room(output.len(), put, 10265) {
         return Turn::Full;
     }
@@ -307,6 +451,7 @@ pub fn step(
         input,
         at,
         is_last,
+        sums,
         output,
         put,
         error,

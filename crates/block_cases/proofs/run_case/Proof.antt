@@ -75,5 +75,4 @@ run-case-spec =
     slice-aggregate-tell-4
     (λ c κs. search needs)
     (λ c. search needs)
-    (λ c. search needs)
     (λ c. search needs))

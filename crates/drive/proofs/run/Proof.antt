@@ -8,18 +8,21 @@ use Prim.Native.Nat.{ℕ, _+_, _-_, _*_, _≤_, _<_}
 use native.Mathlib.Omega.{arith}
 use borrow.Author.Needs.{needs}
 use lib.ListN.{length, take, length-take, length-drop}
-use Rattle.jobs.specs.Answer.{taskOf, placeAt}
+use Rattle.jobs.specs.Steps.{mind}
+use Rattle.jobs.specs.Answer.{Mind, taskOf, Minds, placeAt}
 use Rattle.jobs.specs.declared.step.Job.{Job}
 use Rattle.jobs.specs.declared.step.Turn.{Turn}
 use Rattle.jobs.specs.declared.step.Turn.the-variants as Turn
 use Rattle.jobs.proofs.Held.{Running, begin, next, flushed, to-the-front, filled, as-before}
-use Rattle.jobs.proofs.Runs.{After, after}
+use Rattle.jobs.proofs.Runs.{After, after, minds-none}
 use Rattle.drive.specs.Buffers.{InBuffer}
 use Rattle.drive.proofs.run.Statement.{statement}
 use Rattle.drive.proofs.run.Tie as tie
 
-record Held (job : Job) (input output error : List ℕ) (at have put told version i read sent said turns : ℕ) : Type 0 where
-  runs : Running (taskOf job) input output error at have put told read sent said (placeAt version i tt)
+record Held (job : Job) (input output error sums : List ℕ) (at have put told version i read sent said turns : ℕ) : Type 0 where
+  thought : Mind job
+  runs : Running (taskOf job) input output error at have put told read sent said (placeAt version i thought)
+  minds : Minds job sums (mind (taskOf job) (placeAt version i thought))
   counted : i + turns ≤ 140737488355328
   read-few : read + turns * 32768 ≤ 4611686018427387904
   sent-few : sent + turns * 32768 ≤ 4611686018427387904
@@ -27,25 +30,29 @@ record Held (job : Job) (input output error : List ℕ) (at have put told versio
   input-length : 32768 ≡ length input
   output-length : 32768 ≡ length output
   error-length : 49152 ≡ length error
+  sums-length : 276 ≡ length sums
 
 abbrev Inv-loop : tie.InvT-loop
-Inv-loop job input₀ output₀ error₀ at₀ have₀ put₀ told₀ version₀ record₀ read₀ sent₀ said₀ is-last₀ turns₀ input output error at have put told version «record» read sent said is-last turns =
-    Held job input output error at have put told version «record» read sent said turns
+Inv-loop job input₀ output₀ error₀ sums₀ at₀ have₀ put₀ told₀ version₀ record₀ read₀ sent₀ said₀ is-last₀ turns₀ input output error sums at have put told version «record» read sent said is-last turns =
+    Held job input output error sums at have put told version «record» read sent said turns
 
 abbrev μ-loop : tie.MeasureT-loop
-μ-loop job input₀ output₀ error₀ at₀ have₀ put₀ told₀ version₀ record₀ read₀ sent₀ said₀ is-last₀ turns₀ input output error at have put told version «record» read sent said is-last turns =
+μ-loop job input₀ output₀ error₀ sums₀ at₀ have₀ put₀ told₀ version₀ record₀ read₀ sent₀ said₀ is-last₀ turns₀ input output error sums at have put told version «record» read sent said is-last turns =
     turns
 
 -- ---- where the turn began, and what the step did
 
 abbrev top : tie.After-step Inv-loop μ-loop → tie.At-loop Inv-loop μ-loop
-top c = c .before .before .before .before .before
+top c = c .before .before .before .before .before .before
 
 abbrev out : tie.After-step Inv-loop μ-loop → List ℕ
-out c = c .step .last .1 .1 .1 .1 .1 .1 .0
+out c = c .step .last .1 .1 .1 .1 .1 .1 .1 .0
 
 abbrev err : tie.After-step Inv-loop μ-loop → List ℕ
-err c = c .step .last .1 .1 .1 .1 .1 .1 .1 .1 .0
+err c = c .step .last .1 .1 .1 .1 .1 .1 .1 .1 .1 .0
+
+abbrev sums : tie.After-step Inv-loop μ-loop → List ℕ
+sums c = c .step .last .1 .1 .1 .1 .1 .1 .0
 
 same-output : (c : tie.After-step Inv-loop μ-loop) → 32768 ≡ length (out c)
 same-output c = omega (arith, top c .loop .inv .output-length, c .step .kept)
@@ -53,39 +60,42 @@ same-output c = omega (arith, top c .loop .inv .output-length, c .step .kept)
 same-error : (c : tie.After-step Inv-loop μ-loop) → 49152 ≡ length (err c)
 same-error c = omega (arith, top c .loop .inv .error-length, c .step .kept)
 
+same-sums : (c : tie.After-step Inv-loop μ-loop) → 276 ≡ length (sums c)
+same-sums c = omega (arith, top c .loop .inv .sums-length, c .step .kept)
+
 abbrev Did : tie.After-step Inv-loop μ-loop → Turn → Type 0
-Did c = let l = top c .loop in After (top c .before .args .job) (l .version) (l .«record») (l .inv .runs) (l .is-last) (out c) (err c)
+Did c = let l = top c .loop in After (top c .before .args .job) (l .version) (l .«record») (l .inv .thought) (l .inv .runs) (l .is-last) (sums c) (out c) (err c)
 
 did : (c : tie.After-step Inv-loop μ-loop) → Did c (c .step .result)
 did c =
     let l = top c .loop in
-    after (top c .before .args .job) (l .version) (l .«record») (l .inv .runs) (l .is-last) (out c) (err c)
-    (sym (same-output c) ∙ l .inv .output-length) (sym (same-error c) ∙ l .inv .error-length) (c .step .result) (c .step .ensures tt)
+    after (top c .before .args .job) (l .version) (l .«record») (l .inv .thought) (l .inv .runs) (l .is-last) (sums c) (out c) (err c)
+    (sym (same-output c) ∙ l .inv .output-length) (sym (same-error c) ∙ l .inv .error-length) (l .sums) (l .inv .minds) (c .step .result) (c .step .ensures (l .inv .thought))
 
 -- something was written
 abbrev step1 : tie.After-known-told Inv-loop μ-loop → tie.After-step Inv-loop μ-loop
-step1 c = c .before .before .before .before .before
+step1 c = c .before .before .before .before .before .before
 
 -- the run is closed
 abbrev step2 : tie.After-known-told2 Inv-loop μ-loop → tie.After-step Inv-loop μ-loop
-step2 c = c .before .before .before .before .before
+step2 c = c .before .before .before .before .before .before
 
 last : (c : tie.After-known-told2 Inv-loop μ-loop) → Did (step2 c) (Turn.Stop (c .before .turn2 .given .0 .0) (c .before .turn2 .given .0 .1 .0))
 last c = subst (Did (step2 c)) (c .before .turn2 .given .1) (did (step2 c))
 
 -- the buffers are full, or more bytes are wanted: nothing was written
 abbrev step3 : tie.At-match-came Inv-loop μ-loop → tie.After-step Inv-loop μ-loop
-step3 c = c .before .before .before
+step3 c = c .before .before .before .before
 
 still : (c : tie.At-match-came Inv-loop μ-loop) → Did (step3 c) Turn.Full
 still c =
     let s = step3 c in
-    ⊎-elim (λ w. subst (Did s) (w .1 .given .1) (did s)) (λ w. let m : Did s Turn.More = subst (Did s) (w .1 .given .1) (did s) in m .0) (c .match .came)
+    ⊎-elim (λ w. subst (Did s) (w .1 .given .1) (did s)) (λ w. let m : Did s Turn.More = subst (Did s) (w .1 .given .1) (did s) in (m .0, m .1 .0)) (c .match .came)
 
 few : (c : tie.At-match-came Inv-loop μ-loop) → c .match .is-wanted ≡ true → top (step3 c) .loop .have - top (step3 c) .loop .at < 10265
 few c h =
     let s = step3 c in
-    ⊎-elim (λ w. let z : _≡_ {A = ℕ} 0 1 = cc in absurd (omega arith)) (λ w. let m : Did s Turn.More = subst (Did s) (w .1 .given .1) (did s) in m .1) (c .match .came)
+    ⊎-elim (λ w. let z : _≡_ {A = ℕ} 0 1 = cc in absurd (omega arith)) (λ w. let m : Did s Turn.More = subst (Did s) (w .1 .given .1) (did s) in m .1 .1) (c .match .came)
 
 -- what is held was moved to the front
 abbrev wanted : tie.After-to-front Inv-loop μ-loop → tie.At-match-came Inv-loop μ-loop
@@ -93,11 +103,11 @@ wanted c = c .before .before .before .before .before .before .before
 
 moved : (c : tie.After-to-front Inv-loop μ-loop)
     → let s = step3 (wanted c) in let l = top s .loop in
-    Running (taskOf (top s .before .args .job)) (c .to-front .last .0) (out s) (err s) 0 (c .to-front .result) 0 0 (l .read) (l .sent + l .put) (l .said + l .told) (placeAt (l .version) (l .«record») tt)
+    Running (taskOf (top s .before .args .job)) (c .to-front .last .0) (out s) (err s) 0 (c .to-front .result) 0 0 (l .read) (l .sent + l .put) (l .said + l .told) (placeAt (l .version) (l .«record») (l .inv .thought))
 moved c =
     let s = step3 (wanted c) in
     let t = taskOf (top s .before .args .job) in
-    to-the-front t (flushed t (still (wanted c))) (c .to-front .ensures .bytes) (c .to-front .ensures .count) (c .to-front .kept .0)
+    to-the-front t (flushed t (still (wanted c) .0)) (c .to-front .ensures .bytes) (c .to-front .ensures .count) (c .to-front .kept .0)
 
 -- and more was read after it
 abbrev front : tie.After-fill Inv-loop μ-loop → tie.After-to-front Inv-loop μ-loop
@@ -109,7 +119,9 @@ same-input c = omega (arith, top (step3 (wanted (front c))) .loop .inv .input-le
 loop-holds : tie.Need-loop-holds Inv-loop μ-loop
 loop-holds c =
     record {
+      thought = taskOf (c .args .job) .start;
       runs = begin (taskOf (c .args .job)) _ _ _;
+      minds = minds-none (c .args .job);
       counted = omega arith;
       read-few = omega arith;
       sent-few = omega arith;
@@ -117,6 +129,7 @@ loop-holds c =
       input-length = search needs;
       output-length = search needs;
       error-length = search needs;
+      sums-length = search needs;
     }
 
 slice-aggregate-step : tie.Need-slice-aggregate-step Inv-loop μ-loop
@@ -126,8 +139,12 @@ loop-again : tie.Need-loop-again Inv-loop μ-loop
 loop-again c =
     let s = step1 c in
     let l = top s .loop in
+    let t = c .before .turn .given in
+    let x : Did s (Turn.Wrote (t .0 .0) (t .0 .1 .0) (t .0 .1 .1 .0) (t .0 .1 .1 .1 .0)) = subst (Did s) (t .1) (did s) in
     record {
-      runs = subst (Did s) (c .before .turn .given .1) (did s);
+      thought = x .0;
+      runs = x .1 .0;
+      minds = x .1 .1;
       counted = omega (arith, l .inv .counted);
       read-few = omega (arith, l .inv .read-few);
       sent-few = omega (arith, l .inv .sent-few);
@@ -135,6 +152,7 @@ loop-again c =
       input-length = l .inv .input-length;
       output-length = same-output s;
       error-length = same-error s;
+      sums-length = same-sums s;
     }
 
 array-share-prefix-output : tie.Need-array-share-prefix-output Inv-loop μ-loop
@@ -153,13 +171,13 @@ finish-requires : tie.Need-finish-requires Inv-loop μ-loop
 finish-requires c κs = last (c .before .before) .1 .1
 
 slice-aggregate-hand-on : tie.Need-slice-aggregate-hand-on Inv-loop μ-loop
-slice-aggregate-hand-on c = simp length-take (omega (arith, still (c .before) .room))
+slice-aggregate-hand-on c = simp length-take (omega (arith, still (c .before) .0 .room))
 
 slice-aggregate-hand-on-2 : tie.Need-slice-aggregate-hand-on-2 Inv-loop μ-loop
-slice-aggregate-hand-on-2 c = simp length-take (omega (arith, still (c .before .before) .error-room))
+slice-aggregate-hand-on-2 c = simp length-take (omega (arith, still (c .before .before) .0 .error-room))
 
 hand-on-requires : tie.Need-hand-on-requires Inv-loop μ-loop
-hand-on-requires c κs = next (taskOf (top (step3 (c .before .before)) .before .args .job)) (still (c .before .before))
+hand-on-requires c κs = next (taskOf (top (step3 (c .before .before)) .before .args .job)) (still (c .before .before) .0)
 
 fill-requires : tie.Need-fill-requires Inv-loop μ-loop
 fill-requires c κs =
@@ -186,14 +204,17 @@ loop-again-2 c =
     let s = step3 w in
     let l = top s .loop in
     record {
+      thought = l .inv .thought;
       runs = filled (taskOf (top s .before .args .job)) (moved (front f)) (f .fill .ensures .kept) (n .0) (n .1);
+      minds = still w .1;
       counted = omega (arith, l .inv .counted);
       read-few = omega (arith, l .inv .read-few, n .0, n .1, same-input f);
-      sent-few = omega (arith, l .inv .sent-few, still w .room, same-output s);
-      said-few = omega (arith, l .inv .said-few, still w .error-room, same-error s);
+      sent-few = omega (arith, l .inv .sent-few, still w .0 .room, same-output s);
+      said-few = omega (arith, l .inv .said-few, still w .0 .error-room, same-error s);
       input-length = same-input f;
       output-length = same-output s;
       error-length = same-error s;
+      sums-length = same-sums s;
     }
 
 loop-again-3 : tie.Need-loop-again-3 Inv-loop μ-loop
@@ -203,14 +224,17 @@ loop-again-3 c =
     let s = step3 w in
     let l = top s .loop in
     record {
+      thought = l .inv .thought;
       runs = as-before (taskOf (top s .before .args .job)) (moved (front f)) (f .fill .ensures .kept) (omega (arith, moved (front f) .inside, f .fill .kept));
+      minds = still w .1;
       counted = omega (arith, l .inv .counted);
       read-few = omega (arith, l .inv .read-few);
-      sent-few = omega (arith, l .inv .sent-few, still w .room, same-output s);
-      said-few = omega (arith, l .inv .said-few, still w .error-room, same-error s);
+      sent-few = omega (arith, l .inv .sent-few, still w .0 .room, same-output s);
+      said-few = omega (arith, l .inv .said-few, still w .0 .error-room, same-error s);
       input-length = same-input f;
       output-length = same-output s;
       error-length = same-error s;
+      sums-length = same-sums s;
     }
 
 loop-again-4 : tie.Need-loop-again-4 Inv-loop μ-loop
@@ -219,14 +243,17 @@ loop-again-4 c =
     let s = step3 w in
     let l = top s .loop in
     record {
-      runs = flushed (taskOf (top s .before .args .job)) (still w);
+      thought = l .inv .thought;
+      runs = flushed (taskOf (top s .before .args .job)) (still w .0);
+      minds = still w .1;
       counted = omega (arith, l .inv .counted);
       read-few = omega (arith, l .inv .read-few);
-      sent-few = omega (arith, l .inv .sent-few, still w .room, same-output s);
-      said-few = omega (arith, l .inv .said-few, still w .error-room, same-error s);
+      sent-few = omega (arith, l .inv .sent-few, still w .0 .room, same-output s);
+      said-few = omega (arith, l .inv .said-few, still w .0 .error-room, same-error s);
       input-length = l .inv .input-length;
       output-length = same-output s;
       error-length = same-error s;
+      sums-length = same-sums s;
     }
 
 pub run-spec : {M : Type 1} → statement M
@@ -239,6 +266,7 @@ run-spec =
     (λ c. search needs)
     (λ c. search needs)
     slice-aggregate-step
+    (λ c. search needs)
     (λ c. search needs)
     (λ c. search needs)
     (λ c κs. search needs)

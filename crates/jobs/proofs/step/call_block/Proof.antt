@@ -7,9 +7,9 @@ use Rattle.jobs.proofs.step.call_block.Tie as tie
 
 returns : tie.Need-returns
 returns c =
-    let n = c .before .before .before .before .before in
+    let n = c .before .before .before .before .before .before .before .before in
     let a = n .before .before .before .before .before .before .before .before .before .before .args in
-    refused-block (a .«record») (n .before .before .before .before .act .ensures) (n .number .ensures) (omega arith) (c .before .before .before .before .if1 .taken) (c .before .before .refuse .ensures)
+    refused-block (a .«record») (n .before .before .before .before .act .ensures) (n .number .ensures) (c .before .before .before .before .before .before .before .if1 .taken) (c .before .before .before .before .refuse .ensures)
 
 returns-2 : tie.Need-returns-2
 returns-2 c =
@@ -24,6 +24,7 @@ call-block-spec =
     (λ c κs. search needs)
     (λ c κs. search needs)
     (λ c κs. search needs)
+    (λ c. search needs)
     (λ c. search needs)
     (λ c. search needs)
     (λ c. search needs)

@@ -1,14 +1,15 @@
 -- `step::go_on` meets its contract.
-use mathlib.Core.Path.{sym, ap, subst}
-use mathlib.Core.Bool.{Bool, cond}
-use Prim.Native.Nat.{_≤_}
+use mathlib.Core.Path.{_≡_, sym, subst, _∙_}
+use mathlib.Core.Bool.{false}
+use mathlib.Core.Logic.{⊎-elim}
+use Prim.Native.Nat.{_≤_, _<_}
 use native.Mathlib.Omega.{arith}
-use lib.ListN.{length-take}
+use lib.ListN.{length, length-take}
 use Rattle.blockfile.specs.Answer.{RecordAt}
 use Rattle.blockfile.specs.Record.{area}
 use Rattle.blockfile.proofs.Records.{area-most}
-use Rattle.jobs.specs.declared.step.Turn.the-variants as Turn
-use Rattle.jobs.proofs.Turns.{no-record, refused-record, Found-at, whole, did}
+use Rattle.jobs.specs.Answer.{taskOf}
+use Rattle.jobs.proofs.Turns.{past-record, end-record, more-record, refused-record, Found-at, whole, did}
 use borrow.Author.Needs.{needs}
 use Rattle.jobs.proofs.step.go_on.Statement.{statement}
 use Rattle.jobs.proofs.step.go_on.Tie as tie
@@ -17,7 +18,11 @@ abbrev read-at : tie.After-known-told → tie.After-read-record
 read-at c = c .before .before .before .before .before
 
 abbrev entry : tie.After-read-record → tie.Start
-entry c = c .before .before .before .before .before .before
+entry c = c .before .before .before .before .before .before .before .before
+
+-- a record that is there is not one too many
+unpast : (c : tie.Joined1) → let a = c .before .before .before .before .before .args in a .at < length (a .input .now) → taskOf (a .job) .past (a .«record») ≡ false
+unpast c l = ⊎-elim (λ x. sym (x .1 .ensures) ∙ x .2 .left) (λ x. let f : ⊥ = omega (arith, x .left, l) in absurd f) (c .if1 .came)
 
 -- a whole record was found
 w : (c : tie.After-known-told)
@@ -28,6 +33,13 @@ w c = whole (subst (RecordAt _ _ _ _ _ _ _) (c .before .found .given .1) (read-a
 
 few : (c : tie.After-known-told) → area (c .before .found .given .0 .0) ≤ 1024
 few c = area-most (c .before .found .given .0 .0) (w c .can-be .size)
+
+returns : tie.Need-returns
+returns c =
+    let p = c .before .before .before .before .before .before .before .before in
+    let a = p .before .before .before .before .before .before .args in
+    past-record (a .job) (a .is-last) (a .version) (a .input .now) (a .at) (a .sums .now) (c .before .before .before .before .before .before .before .before .before .if1 .taken) (a .«record») (sym (p .is-past .ensures) ∙ c .before .before .before .before .before .before .before .if2 .taken)
+    (c .before .before .before .before .refuse .ensures)
 
 coefficient-count-requires : tie.Need-coefficient-count-requires
 coefficient-count-requires c κs = (few c, w c .can-be .allowed)
@@ -49,7 +61,7 @@ slice-aggregate-do-block-2 c = simp length-take (omega (arith, few (c .before .b
 
 do-block-requires : tie.Need-do-block-requires
 do-block-requires c κs =
-    let e = c .before .before .before .before in
+    let e = c .before .before .before .before .before in
     let c1 = e .before in
     let m = e .coefficient-count .ensures in (
       record {
@@ -57,37 +69,46 @@ do-block-requires c κs =
         few = simp length-take (omega (arith, m .1));
         few-pixels = simp length-take (omega (arith, few c1));
       },
-      c .before .before .before .before .before .before .before .before .before .before .before .before .before .before .before .before .pre,
+      c .before .before .before .before .before .before .before .before .before .before .before .before .before .before .before .before .before .before .before .pre,
     )
-
-returns : tie.Need-returns
-returns c =
-    let a = c .before .before .before .before .before .before .before .before .before .before .before .args in
-    no-record (a .job) (a .is-last) (omega arith) (subst (RecordAt _ _ _ _ _ _ _) (c .before .enum-told .given .1) (c .before .before .before .before .before .read-record .ensures)) (omega arith) (a .«record»)
-    (sym (ap (λ (t : Bool). cond t (Turn.Stop (a .put) (a .told)) Turn.More) (c .if1 .taken)))
 
 returns-2 : tie.Need-returns-2
 returns-2 c =
-    let e = c .before .before .before .before .before .before .before .before .before .before .before in
-    let a = e .before .before .before .before .before .before .before .before .before .before .before .before .args in
-    did (w (e .before)) (e .coefficient-count .ensures .0) (a .job) (a .is-last) (a .«record») (c .before .before .before .before .before .before .do-block .ensures)
+    let r = c .before .before .before .before .before .before .before .before .before .before .before in
+    let a = entry r .args in
+    end-record (a .job) (a .is-last) (a .version) (a .input .now) (a .at) (a .sums .now) (subst (RecordAt _ _ _ _ _ _ _) (c .before .before .before .before .before .before .before .enum-told .given .1) (r .read-record .ensures))
+    (c .before .before .before .before .before .before .if3 .taken) (a .«record») (c .before .before .finish .ensures)
 
 returns-3 : tie.Need-returns-3
 returns-3 c =
-    let a = c .before .before .before .before .before .before .before .before .before .before .before .args in
-    no-record (a .job) (a .is-last) (omega arith) (subst (RecordAt _ _ _ _ _ _ _) (c .before .enum-told .given .1) (c .before .before .before .before .before .read-record .ensures)) (omega arith) (a .«record»)
-    (sym (ap (λ (t : Bool). cond t (Turn.Stop (a .put) (a .told)) Turn.More) (c .if1 .left)))
+    let e = c .before .before .before .before .before .before .before .before .before .before .before .before .before .before in
+    let r = read-at (e .before) in
+    let a = entry r .args in
+    did (w (e .before)) (e .coefficient-count .ensures .0) (a .job) (a .is-last) (a .«record») (unpast (r .before .before .before)) (a .sums .now) _ (c .before .before .before .before .before .before .before .before .do-block .ensures)
 
 returns-4 : tie.Need-returns-4
 returns-4 c =
-    let a = c .before .before .before .before .before .before .before .before .before .before .before .before .before .before .before .args in
-    refused-record (a .job) (a .is-last) (omega arith)
-    (subst (RecordAt _ _ _ _ _ _ _) (c .before .before .before .before .before .found2 .given .1) (c .before .before .before .before .before .before .before .before .before .read-record .ensures)) (a .«record») (c .before .before .fallen .ensures)
+    let r = c .before .before .before .before .before in
+    let a = entry r .args in
+    more-record (a .job) (a .is-last) (a .version) (a .input .now) (a .at) (a .sums .now) (subst (RecordAt _ _ _ _ _ _ _) (c .before .enum-told .given .1) (r .read-record .ensures))
+    (c .if3 .left) (omega arith) (omega arith) (a .«record»)
+
+returns-5 : tie.Need-returns-5
+returns-5 c =
+    let r = c .before .before .before .before .before .before .before .before .before .before .before .before in
+    let a = entry r .args in
+    refused-record (a .job) (a .is-last) (a .version) (a .input .now) (a .at) (a .sums .now)
+    (subst (RecordAt _ _ _ _ _ _ _) (c .before .before .before .before .before .before .before .before .found2 .given .1) (r .read-record .ensures)) (a .«record») (unpast (r .before .before .before)) (c .before .before .before .before .fallen .ensures)
 
 pub go-on-spec : {M : Type 1} → statement M
 go-on-spec =
     tie.close
     (tie.spec
+    (λ c κs. search needs)
+    (λ c κs. search needs)
+    (λ c. search needs)
+    (λ c. search needs)
+    returns
     (λ c. search needs)
     (λ c. search needs)
     (λ c κs. search needs)
@@ -102,12 +123,18 @@ go-on-spec =
     slice-aggregate-do-block-2
     do-block-requires
     (λ c. search needs)
-    returns
+    (λ c κs. search needs)
+    (λ c. search needs)
+    (λ c. search needs)
+    (λ c. search needs)
+    returns-2
     (λ c. search needs)
     (λ c κs. search needs)
     (λ c. search needs)
     (λ c. search needs)
-    returns-2
-    returns-3
     (λ c. search needs)
-    returns-4)
+    returns-3
+    returns-4
+    (λ c. search needs)
+    (λ c. search needs)
+    returns-5)

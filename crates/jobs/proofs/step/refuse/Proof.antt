@@ -1,12 +1,31 @@
 -- `step::refuse` meets its contract.
+use mathlib.Core.Path.{sym, _∙_}
 use native.Mathlib.Omega.{arith}
-use Rattle.jobs.proofs.Turns.{refuses}
+use Rattle.jobs.proofs.Turns.{refuses-out, refuses-err}
 use borrow.Author.Needs.{needs}
 use Rattle.jobs.proofs.step.refuse.Statement.{statement}
 use Rattle.jobs.proofs.step.refuse.Tie as tie
 
 returns : tie.Need-returns
-returns c = let s = c .before .before .before .before .before in refuses (s .args .job) (s .args .«record») (s .args .k) (c .before .before .refused-line .ensures) (omega arith)
+returns c =
+    let t = c .before .before .before .before .before in
+    let a = t .before .before .before .args in
+    refuses-out (a .job) (a .«record») (a .k) (sym (t .is-totals .ensures) ∙ c .before .before .before .before .if1 .taken) (omega arith) (c .before .before .refused-line .ensures)
+
+returns-2 : tie.Need-returns-2
+returns-2 c =
+    let t = c .before .before .before .before .before in
+    let a = t .before .before .before .args in
+    refuses-err (a .job) (a .«record») (a .k) (sym (t .is-totals .ensures) ∙ c .before .before .before .before .if1 .left) (omega arith) (c .before .before .refused-line2 .ensures)
 
 pub refuse-spec : {M : Type 1} → statement M
-refuse-spec = tie.close (tie.spec (λ c κs. search needs) (λ c. search needs) returns)
+refuse-spec =
+    tie.close
+    (tie.spec
+    (λ c κs. search needs)
+    (λ c κs. search needs)
+    (λ c. search needs)
+    returns
+    (λ c κs. search needs)
+    (λ c. search needs)
+    returns-2)

@@ -1,0 +1,6 @@
+// Reads a block file from standard input and prints the totals over its records.
+use jobs::step::Job;
+
+fn main() {
+    drive::run(Job::Totals(4294967295));
+}
