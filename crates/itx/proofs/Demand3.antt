@@ -1,4 +1,4 @@
--- Demand 3 in one statement: whatever is announced of an accepted block, the outcome is the same.
+-- Demand 3 in one statement: whatever is announced of a block that some call accepts, the outcome is the same.
 use mathlib.Core.Path.{_≡_, refl, sym, ap, _∙_, subst}
 use mathlib.Core.Bool.{not, _&&_}
 use mathlib.Core.Option.{none}
@@ -20,10 +20,13 @@ use Rattle.residual.specs.Blocks.{way}
 use Rattle.itx.specs.Calls.{Block, Call, plain, live, bad-rows, with-depth, table, verdict, outcome-of, outcome}
 use Rattle.itx.specs.Demands.{Accepted, Alone, whole, Announced, eob, rows, other-type, first-only}
 use Rattle.itx.proofs.Verdicts.{then-same, planned-at, accepted-by}
-use Rattle.itx.proofs.Sameness.{strays-none, live-whole, plain-whole, zero-whole, with-eob, with-rows}
+use Rattle.itx.proofs.Sameness.{strays-none, accepted-plain, live-whole, plain-whole, zero-whole, with-eob, with-rows}
 use Rattle.itx.proofs.Shortcut.{dct-dct, shortcut-whole}
 
-module _ (b : Block) (p : Plan) (d : Depth) (good : Accepted (plain (pos 0)) b p d) where
+module _ (b : Block) (p : Plan) (d : Depth) {any : Call} (a : Accepted any b p d) where
+  good : Accepted (plain (pos 0)) b p d
+  good = accepted-plain b p d a
+
   -- type 0 is DCT_DCT
   is-dct-dct : b .type ≡ 0 → dct-dct (p .w) (p .h) (p .shift) ≡ p
   is-dct-dct t =
@@ -37,11 +40,11 @@ module _ (b : Block) (p : Plan) (d : Depth) (good : Accepted (plain (pos 0)) b p
   demand-3 (other-type e) = zero-whole b p d e good
   demand-3 (first-only t alone) =
       subst (λ (q : Plan). Accepted (plain (pos 0)) b q d → Alone b q → outcome (plain (pos 0)) b ≡ whole b q d) (is-dct-dct t)
-      (λ g a. shortcut-whole b (p .w) (p .h) (p .shift) d g a) good alone
+      (λ g o. shortcut-whole b (p .w) (p .h) (p .shift) d g o) good alone
 
   -- announcing more never changes the picture
   pub announcing-more : {call call′ : Call} → Announced b p d call → Announced b p d call′ → outcome call b ≡ outcome call′ b
-  announcing-more a a′ = demand-3 a ∙ sym (demand-3 a′)
+  announcing-more m m′ = demand-3 m ∙ sym (demand-3 m′)
 
 -- ---- of any block: live rows that cover are the plain call with eob 1, refusals included
 

@@ -1,13 +1,15 @@
--- Coefficients past w·h and pixels that are not visible influence nothing: a call on other ones answers the same, and leaves the same in the visible part.
+-- Coefficients past w·h and pixels that are not visible influence nothing: a call on other ones answers the same, and leaves the same visible pixels and
+-- the same w·h coefficients.
 use mathlib.Core.Path.{_≡_, refl, sym, ap, ap₂, _∙_, subst, subst⁻¹}
-use mathlib.Core.Bool.{Bool, false, cond, _&&_, _||_}
-use mathlib.Core.List.{List}
-use Prim.Native.Nat.{ℕ, suc, _+_, _*_, _%_, _≤_, _<_}
+use mathlib.Core.Bool.{Bool, true, false, cond, _&&_, _||_}
+use mathlib.Core.List.{List, [], _∷_, _++_}
+use Prim.Native.Nat.{ℕ, zero, suc, _+_, _*_, _%_, _≤_, _<_}
 use native.Mathlib.Nat.{mul-le-mul-right}
 use native.Mathlib.Omega.{arith}
+use borrow.Author.Tests.{ltb-false}
 use lib.Dec.{ltb, leb}
 use lib.IntN.{ℤ, pos}
-use lib.ListN.{getD, length}
+use lib.ListN.{getD, length, set, replicate, drop}
 use Rattle.whole.specs.Numbers.{outside, low, high}
 use Rattle.whole.specs.Lists.{at}
 use Rattle.whole.specs.Checks.{Check, accept, refuse, then, when, judged}
@@ -27,7 +29,7 @@ use Rattle.pixels.specs.Adds.{add-pixel}
 use Rattle.pixels.proofs.Above.{above-alike}
 use Rattle.itx.specs.Calls.{Block, Call, plain, live, stray, table, checked, verdict, short, live-rows, outcome-of, outcome}
 use Rattle.itx.specs.Demands.{Accepted}
-use Rattle.itx.proofs.Outcomes.{added, answer-is, pixel-rule}
+use Rattle.itx.proofs.Outcomes.{added, answer-is, coefs-are, pixel-rule}
 use Rattle.itx.proofs.Sameness.{live-inside, area-positive}
 use Rattle.itx.proofs.Verdicts.{accepting, accepted-by}
 
@@ -57,6 +59,21 @@ module _ (𝓦 : Way) (c c′ : List ℤ) (alike : (i : ℕ) → i < 𝓦 .w * �
 pub stray-alike : (call : Call) (p : Plan) (c c′ : List ℤ) → ((i : ℕ) → i < p .w * p .h → at c i ≡ at c′ i) → stray call p c ≡ stray call p c′
 stray-alike (plain e) p c c′ q = refl
 stray-alike (live r) p c c′ q = first-ext (p .w * p .h) _ _ (λ i l. ap (λ (z : ℤ). leb r (i % p .h) && nonzero z) (q i l))
+
+-- what is left of n coefficients by the short or the long way: of each it depends on that one alone
+abbrev left : ℕ → Bool → List ℤ → List ℤ
+left n t k = cond t (set k 0 (pos 0)) (replicate n (pos 0) ++ drop n k)
+
+first-alike : (c c′ : List ℤ) (i : ℕ) → 0 < length c → 0 < length c′ → at c i ≡ at c′ i → at (set c 0 (pos 0)) i ≡ at (set c′ 0 (pos 0)) i
+first-alike [] c′ i l m e = let f : ⊥ = omega arith in absurd f
+first-alike (x ∷ c) [] i l m e = let f : ⊥ = omega arith in absurd f
+first-alike (x ∷ c) (y ∷ c′) zero l m e = refl
+first-alike (x ∷ c) (y ∷ c′) (suc i) l m e = e
+
+front-zero : (n : ℕ) (c : List ℤ) (i : ℕ) → i < n → at (replicate n (pos 0) ++ c) i ≡ pos 0
+front-zero zero c i l = let f : ⊥ = omega arith in absurd f
+front-zero (suc n) c zero l = refl
+front-zero (suc n) c (suc i) l = front-zero n c i (omega arith)
 
 -- the block with other coefficients and pixels
 abbrev pub other : Block → List ℤ → List ℕ → Block
@@ -114,6 +131,18 @@ module _ (call : Call) (b : Block) (c : List ℤ) (ps : List ℕ) (alike : (i : 
     same-pixel y x l g =
         pixel-rule call b p d good y x l g ∙ (λ i. add-pixel (maximum d) (as-visible y x l g i) (added-alike y x i)) ∙ sym (pixel-rule call (other b c ps) p d accepted-too y x l g)
 
+    -- and so is a coefficient of the block
+    pub same-coefficient : (i : ℕ) → i < p .w * p .h → at (outcome call b .coefs) i ≡ at (outcome call (other b c ps) .coefs) i
+    same-coefficient i l =
+        ap (λ (t : List ℤ). at t i) (coefs-are call b p d good) ∙ go (short call p) ∙ sym (ap (λ (t : List ℤ). at t i) (coefs-are call (other b c ps) p d accepted-too))
+      where
+        some : (k : List ℤ) → ltb (length k) (p .w * p .h) ≡ false → 0 < length k
+        some k e = omega (arith, ltb-false (length k) (p .w * p .h) e, area-positive b p d call good)
+
+        go : (t : Bool) → at (left (p .w * p .h) t (b .coefs)) i ≡ at (left (p .w * p .h) t c) i
+        go true = first-alike (b .coefs) c i (some (b .coefs) (good .enough)) (some c (accepted-too .enough)) (same i l)
+        go false = front-zero (p .w * p .h) (drop (p .w * p .h) (b .coefs)) i l ∙ sym (front-zero (p .w * p .h) (drop (p .w * p .h) c) i l)
+
   -- any call
   pub same-answer : outcome call b .answer ≡ outcome call (other b c ps) .answer
   unfolding outcome
@@ -125,3 +154,11 @@ module _ (call : Call) (b : Block) (c : List ℤ) (ps : List ℕ) (alike : (i : 
       go : (v : Check (Plan × Depth)) → verdict call b ≡ v → outcome call b .answer ≡ outcome call (other b c ps) .answer
       go (refuse n i) e = refused n i b e ∙ sym (refused n i (other b c ps) (sym same-verdict ∙ e))
       go (accept (p, d)) e = accepted-alike p d (accepted-by call b p d e)
+
+  -- all of it, for an accepted call; a refused one leaves pixels and coefficients as they were (`refusal-leaves`)
+  pub beyond-is-nothing : (p : Plan) (d : Depth) → Accepted call b p d
+      → (outcome call b .answer ≡ outcome call (other b c ps) .answer)
+      × ((y x : ℕ) → y < b .plane .view .rows → x < b .plane .view .columns
+      → getD (outcome call b .pixels) (place (b .plane) y x) 0 ≡ getD (outcome call (other b c ps) .pixels) (place (b .plane) y x) 0)
+      × ((i : ℕ) → i < p .w * p .h → at (outcome call b .coefs) i ≡ at (outcome call (other b c ps) .coefs) i)
+  beyond-is-nothing p d good = (same-answer, same-pixel p d good, same-coefficient p d good)

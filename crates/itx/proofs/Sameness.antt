@@ -13,7 +13,7 @@ use lib.ListN.{replicate, drop}
 use Rattle.whole.specs.Lists.{at, first}
 use Rattle.whole.specs.Checks.{accept, refuse, then, unless-at, when, judged}
 use Rattle.whole.proofs.Counts.{first-none, none-first}
-use Rattle.itx_1d.specs.Calls.{acceptance}
+use Rattle.itx_1d.specs.Calls.{acceptance, refusal}
 use Rattle.bitdepth.specs.declared.Depth.{Depth}
 use Rattle.bitdepth.specs.Depths.{maximum}
 use Rattle.levels.specs.declared.Plan.{Plan}
@@ -114,10 +114,14 @@ module _ (b : Block) (p : Plan) (d : Depth) where
   pub zero-whole : short (plain (pos 0)) p ≡ false → Accepted (plain (pos 0)) b p d → outcome (plain (pos 0)) b ≡ whole b p d
   zero-whole e a = opened (plain (pos 0)) a ∙ ap (λ (t : Bool). cond t (by-shortcut b p d) (whole b p d)) e
 
+  -- what any call accepts, the plain call with eob 0 accepts
+  pub accepted-plain : {call : Call} → Accepted call b p d → Accepted (plain (pos 0)) b p d
+  accepted-plain a = record { planned = a .planned; deep = a .deep; eob = refl; rows = refl; enough = a .enough; placed = a .placed; ranged = a .ranged; covered = refl; sound = a .sound }
+
   module _ (good : Accepted (plain (pos 0)) b p d) where
     -- with any eob, and with any covering count
     pub with-eob : (n : ℕ) → Accepted (plain (pos n)) b p d
-    with-eob n = record { planned = good .planned; deep = good .deep; eob = refl; rows = refl; enough = good .enough; placed = good .placed; ranged = good .ranged; covered = good .covered; sound = good .sound }
+    with-eob n = record { planned = good .planned; deep = good .deep; eob = refl; rows = refl; enough = good .enough; placed = good .placed; ranged = good .ranged; covered = refl; sound = good .sound }
 
     pub with-rows : (r : ℕ) → 1 ≤ r → r ≤ p .h → Covers (p .w) (p .h) (b .coefs) r → Accepted (live r) b p d
     with-rows r g l k = record {
@@ -140,18 +144,19 @@ module _ (b : Block) (p : Plan) (d : Depth) where
         ∙ (λ j. unless-at (when (bad-rows (live r) (p .h))) 5 (unless-at (when (good .enough j)) 6 (unless-at (when (good .placed .seen j)) 20 (unless-at (when (good .placed .stride j)) 7 (unless-at (when (good .placed .inside j)) 8
         (unless-at (good .ranged j) 9 (unless-at (stray (live r) p (b .coefs)) 10 (unless-at (good .sound j) 21 (accept (p, d))))))))))
 
-    -- a count in the bounds that does not cover is refused as stray, at the first stray's place
-    pub stray-at : (r i : ℕ) → 1 ≤ r → r ≤ p .h → stray (live r) p (b .coefs) ≡ some i → outcome (live r) b ≡ outcome-of way (live r) b (refuse 10 i)
+    stray-at : (r i : ℕ) → 1 ≤ r → r ≤ p .h → stray (live r) p (b .coefs) ≡ some i → outcome (live r) b ≡ outcome-of way (live r) b (refuse 10 i)
     unfolding outcome
     stray-at r i g l e =
         ap (outcome-of way (live r) b) (live-checks r ∙ (λ j. unless-at (when (not (le-leb 1 r g j && le-leb r (p .h) l j))) 5 (unless-at (e j) 10 (accept (p, d)))))
 
-    pub stray-refused : (r : ℕ) → 1 ≤ r → r ≤ p .h → (Covers (p .w) (p .h) (b .coefs) r → ⊥) → outcome (live r) b .answer .number ≡ 10
+    -- a count in the bounds that does not cover is refused as stray, at the first stray's place
+    pub stray-refused : (r : ℕ) → 1 ≤ r → r ≤ p .h → (Covers (p .w) (p .h) (b .coefs) r → ⊥)
+        → (i : ℕ) × (first (p .w * p .h) (in-dead-row r (p .h) (b .coefs)) ≡ some i) × (outcome (live r) b .answer ≡ refusal 10 i)
     stray-refused r g l f = go (stray (live r) p (b .coefs)) refl
       where
-        go : (o : Option ℕ) → stray (live r) p (b .coefs) ≡ o → outcome (live r) b .answer .number ≡ 10
+        go : (o : Option ℕ) → stray (live r) p (b .coefs) ≡ o → (i : ℕ) × (stray (live r) p (b .coefs) ≡ some i) × (outcome (live r) b .answer ≡ refusal 10 i)
         go none e = absurd (f (covers-of (p .w) (p .h) (h-positive (plain (pos 0)) good) (b .coefs) r e))
-        go (some i) e = ap (λ (o : Outcome). o .answer .number) (stray-at r i g l e)
+        go (some i) e = (i, e, ap (λ (o : Outcome). o .answer) (stray-at r i g l e))
 
     -- and a count that covers is not, whatever its bounds
     pub not-stray : (r : ℕ) → Covers (p .w) (p .h) (b .coefs) r → outcome (live r) b .answer .number ≡ 10 → ⊥
