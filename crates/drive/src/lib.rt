@@ -87,7 +87,8 @@ pub fn run(job: Job) {
     // Where the run stands: in a file of this version, before number `record`, 0 being the first number ..
     let mut version: u32 = 1;
     let mut record: u64 = 0;
-    // .. with so many bytes read and handed on to each stream. By these counts nothing can be handed on twice or left out.
+    // .. with so many bytes read and handed on to each stream. What is handed on has to come next after these counts, so they have to grow by all
+    // that was handed on, and once.
     let mut read: u64 = 0;
     let mut sent: u64 = 0;
     let mut said: u64 = 0;

@@ -55,8 +55,7 @@ told-on : (v i : ℕ) (bs : List Block) (e : End) → toldOn blocks v i tt bs e 
 unfolding toldOn begun blocks toldEnd later endOf writeEach actedOn
 told-on v i [] here = refl
 told-on v i [] (refusedAt j k) = refl
-told-on v i (b ∷ bs) here = told-next v i (act v b) (actedOn v (suc i) bs (all [])) (told-on v (suc i) bs here)
-told-on v i (b ∷ bs) (refusedAt j k) = told-next v i (act v b) (actedOn v (suc i) bs (before [] j k)) (told-on v (suc i) bs (refusedAt j k))
+told-on v i (b ∷ bs) e = told-next v i (act v b) (actedOn v (suc i) bs (endOf e)) (told-on v (suc i) bs e)
 
 shown-is : (v : ℕ) (m : Records Block) → ahead (both (number .write v) []) (later v m) ≡ shown v m
 unfolding later shown writeBlocks writeFile

@@ -320,8 +320,7 @@ told-on : (v i : ℕ) (bs : List Block) (e : End)
 unfolding toldOn salvage begun writeEach allLines toldEnd Rattle.jobs.specs.Task.judged
 told-on v i [] here = refl
 told-on v i [] (refusedAt j k) = refl
-told-on v i (b ∷ bs) here = told-next v i b bs here (told-on v (suc i) bs here)
-told-on v i (b ∷ bs) (refusedAt j k) = told-next v i b bs (refusedAt j k) (told-on v (suc i) bs (refusedAt j k))
+told-on v i (b ∷ bs) e = told-next v i b bs e (told-on v (suc i) bs e)
 
 module _ (xs : List ℕ) (v : ℕ) (bs : List Block) where
   -- of a file that is read to its end

@@ -59,8 +59,7 @@ module _ {R S : Type 0} (t : Task R S) where
   unfolding begun judged
   toldOn v i s [] here = t .closing s here
   toldOn v i s [] (refusedAt j k) = begun i s (t .closing s (refusedAt j k))
-  toldOn v i s (r ∷ rs) here = begun i s (judged i s (t .act v i s r) (λ s. toldOn v (suc i) s rs here))
-  toldOn v i s (r ∷ rs) (refusedAt j k) = begun i s (judged i s (t .act v i s r) (λ s. toldOn v (suc i) s rs (refusedAt j k)))
+  toldOn v i s (r ∷ rs) end = begun i s (judged i s (t .act v i s r) (λ s. toldOn v (suc i) s rs end))
 
   unfoldable pub told : ℕ → ℕ → S → Records R → Written
   unfolding toldOn
