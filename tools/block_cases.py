@@ -1,11 +1,14 @@
 #!/usr/bin/env python3
 """Makes the files of crates/block_cases: short block files, and what the programs have to write of them.
 
-    tools/block_cases.py CRATE   writes CRATE/stdin and CRATE/stdout
+    tools/block_cases.py CRATE [FILE DONE]   writes CRATE/stdin and CRATE/stdout
 
-In stdin each file stands after a byte for its job, which is its place in JOBS, and its length, two bytes, low byte first. In stdout
-is what the job writes of it: to standard output, in hexadecimal, a blank, and to standard error, or the line "done" if that is
-nothing. What salvage writes is a file again, and what blocks makes of that follows in the same way.
+In stdin each file stands after a byte for its job, which is its place in JOBS, its length and that of what is known of it, two bytes
+each, low byte first. In stdout is what the job writes of it: to standard output, in hexadecimal, a blank, and to standard error, or the
+line "done" if that is nothing. What salvage writes is a file again, and what blocks makes of that follows in the same way.
+
+FILE is a block file and DONE what the Rust makes of it. They follow in parts that are block files, as job 4, which is the first in larger
+pieces; what becomes of a part is known, and in stdout stands "known" for it. Without FILE and DONE those that stand in CRATE stay.
 
 The reader and the programs are written from E1, E7, E11 and E14 by themselves. What a call does is known only of identity, of the
 shortcut, of document 01's known results and of blocks without coefficients, so accepted records are among those.
@@ -609,18 +612,53 @@ def paragraph(out, err):
     return "%s %s" % (out.hex(), err.decode() or "done\n")
 
 
+def entry(job, f, known=b""):
+    return bytes([job, len(f) % 256, len(f) // 256, len(known) % 256, len(known) // 256]) + f + known
+
+
+LONG = len(JOBS)
+ROOM = 16384 - 10265  # what the program's output may hold before a step
+
+
+def parts(f, done):
+    """a block file and what becomes of it, cut into block files"""
+    before, after = iter(f), iter(done)
+    version = read_version(before)
+    assert read_version(after) == version
+    held, out = number(version), number(version)
+    for r, s in zip(records(before, version), records(after, version), strict=True):
+        if len(out + record(s)) > ROOM or len(held + record(r)) > 16384:
+            yield held, out
+            held, out = number(version), number(version)
+        held, out = held + record(r), out + record(s)
+    yield held, out
+
+
+def standing(crate):
+    """the parts that the crate has"""
+    with open(crate + "/stdin", "rb") as stdin:
+        while head := stdin.read(5):
+            f, known = (stdin.read(head[at] + 256 * head[at + 1]) for at in (1, 3))
+            if head[0] == LONG:
+                yield f, known
+
+
 def main():
     words = sys.argv[1:]
-    if len(words) != 1:
+    if len(words) not in (1, 3):
         print(__doc__)
         return 2
+    long = list(parts(*(open(name, "rb").read() for name in words[1:])) if words[1:] else standing(words[0]))
     stdin, stdout = b"", ""
     for job, f in cases():
-        stdin += bytes([job, len(f) % 256, len(f) // 256]) + f
+        stdin += entry(job, f)
         out, err = ran(JOBS[job], f)
         stdout += paragraph(out, err)
         if JOBS[job] is Salvage:
             stdout += paragraph(*ran(JOBS[0], out))
+    for f, done in long:
+        stdin += entry(LONG, f, done)
+        stdout += "known done\n"
     open(words[0] + "/stdin", "wb").write(stdin)
     open(words[0] + "/stdout", "w").write(stdout)
     return 0

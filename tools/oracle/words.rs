@@ -1,8 +1,12 @@
-//! The lists that `crates/replay_1d` and `crates/replay_8bpc` replay, in words of 32 bits, low byte first.
+//! The lists that `crates/replay` replays, in words of 32 bits, low byte first.
 
 use crate::calls::{Answer, BlockCall, Way};
 
-/// What `crates/replay_8bpc` has room for.
+/// The first words of narrow calls; those of passes are below (`Kind` in itx.rs).
+const PLAIN: u32 = 6;
+const LIVE: u32 = 7;
+
+/// What `crates/replay` has room for.
 const MOST_PIXELS: usize = 2048;
 const MOST_COEFFICIENTS: usize = 1100;
 
@@ -22,8 +26,8 @@ pub fn put_answer(out: &mut Vec<u8>, answer: Answer) {
 fn head(call: &BlockCall) -> Option<[i32; 11]> {
     let word = |n: usize| u32::try_from(n).ok().map(|n| n as i32);
     let (kind, last) = match call.way {
-        Way::Plain(eob) => (0, eob),
-        Way::Live(r) => (1, word(r)?),
+        Way::Plain(eob) => (PLAIN as i32, eob),
+        Way::Live(r) => (LIVE as i32, word(r)?),
     };
     let (w, h, txtp) = (word(call.w)?, word(call.h)?, word(call.txtp)?);
     let (offset, stride) = (call.offset as i32, call.stride);
@@ -76,8 +80,8 @@ pub fn next_call(left: &mut &[u8]) -> Option<BlockCall> {
     let mut next = || word(left);
     let (kind, last) = (next()?, next()?);
     let way = match kind {
-        0 => Way::Plain(last as i32),
-        1 => Way::Live(last as usize),
+        PLAIN => Way::Plain(last as i32),
+        LIVE => Way::Live(last as usize),
         _ => return None,
     };
     let [w, h, txtp] = [next()?, next()?, next()?].map(|n| n as usize);

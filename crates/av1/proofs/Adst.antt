@@ -9,10 +9,10 @@ use lib.IntN.{ℤ, pos, natAbs}
 use Rattle.whole.specs.Numbers.{_>>_, round2}
 use Rattle.whole.specs.Lists.{at}
 use Rattle.whole.proofs.Machine.{Within, E, var, lit, _⊕_, _⊝_, _⊛_, _≫_, bound}
-use Rattle.av1.specs.Passes.{av1-adst4, turned, av1-adst}
+use Rattle.av1.specs.Passes.{av1-adst4, flipped, av1-adst}
 
 -- what holds of zero and of four numbers holds of them backwards
-turned-all : (P : ℤ → Type 0) (v : List ℤ) → P (pos 0) → ((i : ℕ) → P (at v i)) → (flip : Bool) (i : ℕ) → P (at (turned flip v) i)
+turned-all : (P : ℤ → Type 0) (v : List ℤ) → P (pos 0) → ((i : ℕ) → P (at v i)) → (flip : Bool) (i : ℕ) → P (at (flipped flip v) i)
 turned-all P v z h false i = h i
 turned-all P v z h true zero = h 3
 turned-all P v z h true (suc zero) = h 2
@@ -40,13 +40,15 @@ four-small : (a b c d : ℤ) (k : ℕ) → Within (a ∷ b ∷ c ∷ d ∷ []) (
 unfolding av1-adst4 round2 _>>_
 four-small a b c d k h zero = le-trans (bound (a ∷ b ∷ c ∷ d ∷ []) (k ∷ k ∷ k ∷ k ∷ []) h (rounded (p ⊕ s))) (omega arith)
 four-small a b c d k h (suc zero) = le-trans (bound (a ∷ b ∷ c ∷ d ∷ []) (k ∷ k ∷ k ∷ k ∷ []) h (rounded (q ⊕ s))) (omega arith)
-four-small a b c d k h (suc (suc zero)) = le-trans (bound (a ∷ b ∷ c ∷ d ∷ []) (k ∷ k ∷ k ∷ k ∷ []) h (rounded ((var 0 ⊝ var 2 ⊕ var 3) ⊛ lit (pos 3344)))) (omega arith)
+four-small a b c d k h (suc (suc zero)) =
+    le-trans (bound (a ∷ b ∷ c ∷ d ∷ []) (k ∷ k ∷ k ∷ k ∷ []) h (rounded ((var 0 ⊝ var 2 ⊕ var 3) ⊛ lit (pos 3344)))) (omega arith)
 four-small a b c d k h (suc (suc (suc zero))) = le-trans (bound (a ∷ b ∷ c ∷ d ∷ []) (k ∷ k ∷ k ∷ k ∷ []) h (rounded (p ⊕ q ⊝ s))) (omega arith)
 four-small a b c d k h (suc (suc (suc (suc i)))) = omega arith
 
-pub adst-zero : (flip : Bool) → turned flip (av1-adst4 (pos 0) (pos 0) (pos 0) (pos 0)) ≡ pos 0 ∷ pos 0 ∷ pos 0 ∷ pos 0 ∷ []
-adst-zero true = ap (turned true) four-zero
+pub adst-zero : (flip : Bool) → flipped flip (av1-adst4 (pos 0) (pos 0) (pos 0) (pos 0)) ≡ pos 0 ∷ pos 0 ∷ pos 0 ∷ pos 0 ∷ []
+adst-zero true = ap (flipped true) four-zero
 adst-zero false = four-zero
 
 pub adst-small : (flip : Bool) (xs : List ℤ) (k : ℕ) → ((i : ℕ) → natAbs (at xs i) ≤ k) → (i : ℕ) → natAbs (at (av1-adst flip xs) i) ≤ 5 * k + 2
-adst-small flip xs k h = turned-all (λ z. natAbs z ≤ 5 * k + 2) (av1-adst4 (at xs 0) (at xs 1) (at xs 2) (at xs 3)) (omega arith) (four-small (at xs 0) (at xs 1) (at xs 2) (at xs 3) k (h 0, (h 1, (h 2, (h 3, tt))))) flip
+adst-small flip xs k h = turned-all (λ z. natAbs z ≤ 5 * k + 2) (av1-adst4 (at xs 0) (at xs 1) (at xs 2) (at xs 3))
+    (omega arith) (four-small (at xs 0) (at xs 1) (at xs 2) (at xs 3) k (h 0, (h 1, (h 2, (h 3, tt))))) flip

@@ -1,5 +1,5 @@
--- What is known of a value when only zeros, or zeros and one number d, go in: also that no clip acts then; and that what a clip stored lies in its range.
--- Computed over the steps.
+-- What is known of a value when only zeros, or zeros and one number d, go in: also that no clip acts then; and that what a clip stored lies
+-- in its range. Computed over the steps.
 use mathlib.Core.Path.{_≡_, refl, ap, ap₂, _∙_, sym, subst}
 use mathlib.Core.Bool.{Bool, true, false, cond, _&&_, _||_}
 use mathlib.Core.List.{List, [], _∷_}
@@ -12,9 +12,9 @@ use Rattle.whole.specs.Numbers.{_>>_, round2, clip, outside}
 use Rattle.whole.specs.Lists.{at, tab}
 use Rattle.whole.specs.Both.{Both, none, one}
 use Rattle.whole.proofs.Clips.{clip-inside, clip-kept}
-use Rattle.av1.specs.Sides.{Side, of4, of8, of16, of32, len, bits}
+use Rattle.levels.specs.Sides.{Side, of4, of8, of16, of32, len, bits}
 use Rattle.av1.specs.Network.{Alg, Step, B, H, step, run, steps, permuted, dct}
-use Rattle.av1.specs.Values.{turnX, turnY, clipped, hits}
+use Rattle.av1.specs.Values.{turn-x, turn-y, clipped, hits}
 use Rattle.av1.proofs.Related as Related
 use Rattle.av1.proofs.Related.{both-tab, Respects, step-related, run-related, permuted-related, dct-related}
 
@@ -140,8 +140,8 @@ module _ (lo hi d : ℤ) where
     respects : Respects (clipped lo hi) knowing Fact
     respects = record {
       none = refl;
-      cosine = λ c s. turned-is (turnX c s) c (λ x y e. turn-less x y c s e);
-      sine = λ c s. turned-is (turnY c s) s (λ x y e. turn-one x y s c e);
+      cosine = λ c s. turned-is (turn-x c s) c (λ x y e. turn-less x y c s e);
+      sine = λ c s. turned-is (turn-y c s) s (λ x y e. turn-one x y s c e);
       sum = mixed-is _+ℤ_ +ℤ-idr;
       diff = mixed-is _-ℤ_ +ℤ-idr;
     }

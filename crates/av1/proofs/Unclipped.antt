@@ -15,14 +15,11 @@ module _ (lo hi : ℤ) where
   step-unclipped (B a b c s false) t e = refl
   step-unclipped (B a b c s true) t e = refl
   step-unclipped (H a b) t e =
-      let x = at t a in
-      let y = at t b in
-      let o = or-false (outside (x +ℤ y) lo hi) (outside (x -ℤ y) lo hi) e in
+      let x = at t a in let y = at t b in let o = or-false (outside (x +ℤ y) lo hi) (outside (x -ℤ y) lo hi) e in
       λ i. set (set t a (clip-inside (x +ℤ y) lo hi (o .0) i)) b (clip-inside (x -ℤ y) lo hi (o .1) i)
 
   pub unclipped : (ss : List Step) (t : List ℤ) → hits lo hi ss t ≡ false → run (clipped lo hi) ss t ≡ run exact ss t
   unclipped [] t e = refl
   unclipped (s ∷ ss) t e =
-      let u = step (clipped lo hi) s t in
-      let o = or-false (hit lo hi s t) (hits lo hi ss u) e in
+      let u = step (clipped lo hi) s t in let o = or-false (hit lo hi s t) (hits lo hi ss u) e in
       unclipped ss u (o .1) ∙ ap (run exact ss) (step-unclipped s t (o .0))

@@ -1,5 +1,4 @@
 -- Section 7.13 of the AV1 specification.
-pub mod Sides
 pub mod Network
 pub mod Values
 pub mod Passes

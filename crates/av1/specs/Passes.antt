@@ -1,10 +1,10 @@
 -- The one-dimensional inverse transforms of the AV1 specification, section 7.13.2, over whole numbers: no clip.
 use mathlib.Core.Bool.{Bool, cond}
-use mathlib.Core.List.{List, [], _∷_, map}
+use mathlib.Core.List.{List, [], _∷_}
 use lib.IntN.{ℤ, pos, _+ℤ_, _-ℤ_, _*ℤ_}
 use Rattle.whole.specs.Numbers.{_>>_, round2}
 use Rattle.whole.specs.Lists.{at}
-use Rattle.av1.specs.Sides.{Side, of4, of8, of16, of32, bits}
+use Rattle.levels.specs.Sides.{Side, of4, of8, of16, of32, bits}
 use Rattle.av1.specs.Network.{dct}
 use Rattle.av1.specs.Values.{exact}
 
@@ -42,8 +42,8 @@ av1-adst4 a b c d =
     round2 (p +ℤ s) 12 ∷ round2 (q +ℤ s) 12 ∷ round2 ((a -ℤ c +ℤ d) *ℤ pos 3344) 12 ∷ round2 (p +ℤ q -ℤ s) 12 ∷ []
 
 -- four numbers in order or, "FLIPADST stores its outputs in reverse order" (E9), backwards; 7.12.3 turns the block's rows or columns instead
-abbrev pub turned : Bool → List ℤ → List ℤ
-turned flip v = cond flip (at v 3 ∷ at v 2 ∷ at v 1 ∷ at v 0 ∷ []) v
+abbrev pub flipped : Bool → List ℤ → List ℤ
+flipped flip v = cond flip (at v 3 ∷ at v 2 ∷ at v 1 ∷ at v 0 ∷ []) v
 
 abbrev pub av1-adst : Bool → List ℤ → List ℤ
-av1-adst flip xs = turned flip (av1-adst4 (at xs 0) (at xs 1) (at xs 2) (at xs 3))
+av1-adst flip xs = flipped flip (av1-adst4 (at xs 0) (at xs 1) (at xs 2) (at xs 3))

@@ -7,15 +7,15 @@ use Rattle.whole.specs.Lists.{at}
 use Rattle.av1.specs.Network.{Alg, Step, B, H, step}
 
 -- B(a, b, angle, 0), 7.13.2.1
-abbrev pub turnX : ℤ → ℤ → ℤ → ℤ → ℤ
-turnX c s x y = round2 (x *ℤ c -ℤ y *ℤ s) 12
+abbrev pub turn-x : ℤ → ℤ → ℤ → ℤ → ℤ
+turn-x c s x y = round2 (x *ℤ c -ℤ y *ℤ s) 12
 
-abbrev pub turnY : ℤ → ℤ → ℤ → ℤ → ℤ
-turnY c s x y = round2 (x *ℤ s +ℤ y *ℤ c) 12
+abbrev pub turn-y : ℤ → ℤ → ℤ → ℤ → ℤ
+turn-y c s x y = round2 (x *ℤ s +ℤ y *ℤ c) 12
 
 -- whole numbers, with f applied to every sum and difference
 abbrev pub over : (ℤ → ℤ) → Alg ℤ
-over f = record { none = pos 0; cosine = turnX; sine = turnY; sum = λ x y. f (x +ℤ y); diff = λ x y. f (x -ℤ y) }
+over f = record { none = pos 0; cosine = turn-x; sine = turn-y; sum = λ x y. f (x +ℤ y); diff = λ x y. f (x -ℤ y) }
 
 -- the AV1 specification: no clip
 abbrev pub exact : Alg ℤ

@@ -6,7 +6,8 @@ use Rattle.whole.proofs.Checks.{one-answer}
 use Rattle.bitdepth.specs.declared.Depth.{Depth}
 use Rattle.bitdepth.specs.declared.DepthCheck.{DepthCheck}
 use Rattle.bitdepth.specs.declared.DepthCheck.the-variants.{Taken, Refused}
-use Rattle.bitdepth.specs.Depths.{check-of, depth}
+use Rattle.bitdepth.specs.Depths.{depth}
+use Rattle.bitdepth.specs.Depths.{check-of}
 
 abbrev back : Check Depth → DepthCheck
 back (accept d) = Taken d

@@ -1,29 +1,21 @@
 -- Depths: document 01, "Sizes, types, depths", the last table.
 use mathlib.Core.Bool.{cond}
-use mathlib.Core.Path.{_≡_}
 use Prim.Native.Nat.{ℕ}
 use lib.Dec.{eqb}
-use Rattle.whole.specs.Numbers.{low, high}
 use Rattle.whole.specs.Checks.{Check, accept, refuse}
 use Rattle.bitdepth.specs.declared.Depth.{Depth}
 use Rattle.bitdepth.specs.declared.Depth.the-variants.{Eight, Ten, Twelve}
 use Rattle.bitdepth.specs.declared.DepthCheck.{DepthCheck}
 use Rattle.bitdepth.specs.declared.DepthCheck.the-variants.{Taken, Refused}
-use Rattle.bitdepth.specs.declared.Facts.{Facts}
-use Rattle.bitdepth.specs.declared.Range.{Range}
-
--- what an answer says, in the table's numbers
-abbrev pub check-of : DepthCheck → Check Depth
-check-of (Taken d) = accept d
-check-of Refused = refuse 3 0
 
 -- number 3: "depth not 8, 10, 12"
 abbrev pub depth : ℕ → Check Depth
 depth n = cond (eqb n 8) (accept Eight) (cond (eqb n 10) (accept Ten) (cond (eqb n 12) (accept Twelve) (refuse 3 0)))
 
--- a range is -m .. m - 1, given by m
-abbrev pub ends : ℕ → Range
-ends m = record { lo = low m; hi = high m }
+abbrev pub bit-depth : Depth → ℕ
+bit-depth Eight = 8
+bit-depth Ten = 10
+bit-depth Twelve = 12
 
 abbrev pub row-range : Depth → ℕ
 row-range Eight = 32768
@@ -40,8 +32,7 @@ maximum Eight = 255
 maximum Ten = 1023
 maximum Twelve = 4095
 
--- a line of the table
-pub record FactsOf (d : Depth) (f : Facts) : Type 0 where
-  pub row : f .row ≡ ends (row-range d)
-  pub column : f .column ≡ ends (column-range d)
-  pub top : f .maximum ≡ maximum d
+-- what an answer says, in the table's numbers
+abbrev pub check-of : DepthCheck → Check Depth
+check-of (Taken d) = accept d
+check-of Refused = refuse 3 0

@@ -6,27 +6,27 @@ use lib.Dec.{eqb}
 use lib.IntN.{pos, negsuc}
 use lib.ListN.{replicate}
 use Rattle.blockfile.specs.Read.{got, refused}
-use Rattle.blockfile.specs.Number.{readNumber}
+use Rattle.blockfile.specs.Number.{read-number}
 use Rattle.blockfile.specs.Zigzag.{zig}
 use Rattle.blockfile.specs.Record.{form}
-use Rattle.blockfile.specs.File.{all, before, unknown, file, readFile, readBlocks}
+use Rattle.blockfile.specs.File.{all, before, unknown, file, read-file, read-blocks}
 
 -- the largest number, one more, and a fifth group with its top bit set, where 16 comes before 17
-largest : readNumber (255 ∷ 255 ∷ 255 ∷ 255 ∷ 15 ∷ []) ≡ got 4294967295 []
-unfolding readNumber
+largest : read-number (255 ∷ 255 ∷ 255 ∷ 255 ∷ 15 ∷ []) ≡ got 4294967295 []
+unfolding read-number
 largest = refl
 
-too-large : readNumber (128 ∷ 128 ∷ 128 ∷ 128 ∷ 16 ∷ []) ≡ refused 16
-unfolding readNumber
+too-large : read-number (128 ∷ 128 ∷ 128 ∷ 128 ∷ 16 ∷ []) ≡ refused 16
+unfolding read-number
 too-large = refl
 
-fifth-group : readNumber (128 ∷ 128 ∷ 128 ∷ 128 ∷ 128 ∷ 0 ∷ []) ≡ refused 16
-unfolding readNumber
+fifth-group : read-number (128 ∷ 128 ∷ 128 ∷ 128 ∷ 128 ∷ 0 ∷ []) ≡ refused 16
+unfolding read-number
 fifth-group = refl
 
 -- a needless group, and the same file without it
-needless : readNumber (132 ∷ 0 ∷ []) ≡ refused 17
-unfolding readNumber
+needless : read-number (132 ∷ 0 ∷ []) ≡ refused 17
+unfolding read-number
 needless = refl
 
 -- the least coefficient takes the largest number
@@ -34,65 +34,65 @@ least : zig (negsuc 2147483647) ≡ 4294967295
 unfolding zig
 least = refl
 
-empty : readBlocks [] ≡ unknown 15
-unfolding readBlocks
+empty : read-blocks [] ≡ unknown 15
+unfolding read-blocks
 empty = refl
 
-not-1 : readBlocks (3 ∷ 4 ∷ []) ≡ unknown 18
-unfolding readBlocks
+not-1 : read-blocks (3 ∷ 4 ∷ []) ≡ unknown 18
+unfolding read-blocks
 not-1 = refl
 
 -- r is judged as soon as it is read, before the type and the depth, whatever follows
-wrong-rows : readBlocks (2 ∷ 4 ∷ 4 ∷ 17 ∷ 9 ∷ 5 ∷ []) ≡ file 2 (before [] 1 5)
-unfolding readBlocks
+wrong-rows : read-blocks (2 ∷ 4 ∷ 4 ∷ 17 ∷ 9 ∷ 5 ∷ []) ≡ file 2 (before [] 1 5)
+unfolding read-blocks
 wrong-rows = refl
 
-no-rows : readBlocks (2 ∷ 4 ∷ 4 ∷ 0 ∷ 8 ∷ 0 ∷ []) ≡ file 2 (before [] 1 5)
-unfolding readBlocks
+no-rows : read-blocks (2 ∷ 4 ∷ 4 ∷ 0 ∷ 8 ∷ 0 ∷ []) ≡ file 2 (before [] 1 5)
+unfolding read-blocks
 no-rows = refl
 
-no-records : readBlocks (1 ∷ []) ≡ file 1 (all [])
-unfolding readBlocks
+no-records : read-blocks (1 ∷ []) ≡ file 1 (all [])
+unfolding read-blocks
 no-records = refl
 
 -- the size is judged as soon as h is read, the rest where reading meets it
-wrong-size : readBlocks (1 ∷ 4 ∷ 32 ∷ []) ≡ file 1 (before [] 1 1)
-unfolding readBlocks
+wrong-size : read-blocks (1 ∷ 4 ∷ 32 ∷ []) ≡ file 1 (before [] 1 1)
+unfolding read-blocks
 wrong-size = refl
 
-ends-early : readBlocks (1 ∷ 4 ∷ 4 ∷ 0 ∷ 8 ∷ []) ≡ file 1 (before [] 1 15)
-unfolding readBlocks
+ends-early : read-blocks (1 ∷ 4 ∷ 4 ∷ 0 ∷ 8 ∷ []) ≡ file 1 (before [] 1 15)
+unfolding read-blocks
 ends-early = refl
 
-large-eob : readBlocks (1 ∷ 4 ∷ 4 ∷ 0 ∷ 8 ∷ 128 ∷ 128 ∷ 128 ∷ 128 ∷ 8 ∷ []) ≡ file 1 (before [] 1 16)
-unfolding readBlocks
+large-eob : read-blocks (1 ∷ 4 ∷ 4 ∷ 0 ∷ 8 ∷ 128 ∷ 128 ∷ 128 ∷ 128 ∷ 8 ∷ []) ≡ file 1 (before [] 1 16)
+unfolding read-blocks
 large-eob = refl
 
-large-pixel : readBlocks (1 ∷ 4 ∷ 4 ∷ 0 ∷ 8 ∷ 0 ∷ (replicate 16 0 ++ (128 ∷ 128 ∷ 4 ∷ []))) ≡ file 1 (before [] 1 19)
-unfolding readBlocks
+large-pixel : read-blocks (1 ∷ 4 ∷ 4 ∷ 0 ∷ 8 ∷ 0 ∷ (replicate 16 0 ++ (128 ∷ 128 ∷ 4 ∷ []))) ≡ file 1 (before [] 1 19)
+unfolding read-blocks
 large-pixel = refl
 
 -- document 01's 4x4 DCT_DCT with first coefficient 64 and eob 0; 64 is written 128, which takes two groups
-known : readBlocks (1 ∷ 4 ∷ 4 ∷ 0 ∷ 8 ∷ 0 ∷ 128 ∷ 1 ∷ (replicate 15 0 ++ replicate 16 100))
+known : read-blocks (1 ∷ 4 ∷ 4 ∷ 0 ∷ 8 ∷ 0 ∷ 128 ∷ 1 ∷ (replicate 15 0 ++ replicate 16 100))
     ≡ file 1 (all (record {
       head = record { w = 4; h = 4; txtp = 0; depth = 8; announced = 0 };
       coefficients = pos 64 ∷ replicate 15 (pos 0);
       pixels = replicate 16 100;
     } ∷ []))
-unfolding readBlocks
+unfolding read-blocks
 known = refl
 
 -- "A reader of version 1 only refuses version 2 by number 18" (E11), whatever follows
-old-reader : (bs : List ℕ) → readFile (λ v. eqb v 1) form (2 ∷ bs) ≡ unknown 18
-unfolding readFile
+old-reader : (bs : List ℕ) → read-file (λ v. eqb v 1) form (2 ∷ bs) ≡ unknown 18
+unfolding read-file
 old-reader bs = refl
 
 -- version 2: 4x4, one live row of 64, 0, 0, 0
-live : readBlocks (2 ∷ 4 ∷ 4 ∷ 0 ∷ 8 ∷ 1 ∷ 128 ∷ 1 ∷ (replicate 3 0 ++ replicate 16 100))
+live : read-blocks (2 ∷ 4 ∷ 4 ∷ 0 ∷ 8 ∷ 1 ∷ 128 ∷ 1 ∷ (replicate 3 0 ++ replicate 16 100))
     ≡ file 2 (all (record {
       head = record { w = 4; h = 4; txtp = 0; depth = 8; announced = 1 };
       coefficients = pos 64 ∷ replicate 3 (pos 0);
       pixels = replicate 16 100;
     } ∷ []))
-unfolding readBlocks
+unfolding read-blocks
 live = refl

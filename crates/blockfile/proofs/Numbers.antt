@@ -8,7 +8,7 @@ use lib.Dec.{ltb}
 use lib.ListN.{length}
 use borrow.Author.Tests.{ltb-true, ltb-false, lt-ltb, le-ltb}
 use Rattle.blockfile.specs.Read.{Read, got, refused}
-use Rattle.blockfile.specs.Number.{carry, groups, readNumber, digits, writeNumber}
+use Rattle.blockfile.specs.Number.{carry, groups, read-number, digits, write-number}
 use Rattle.blockfile.proofs.Readings.{got-value, got-rest, refused-number, never, Stays}
 
 -- what `left` groups and one more can hold: 16, 2048, .., and 4294967296 at 4
@@ -32,8 +32,7 @@ digits-back (suc left) n rest h = go (ltb n 128) refl (digits-back left (n / 128
         → groups (suc left) (digits (suc left) n ++ rest) ≡ got n rest
     go true e ih = rw (e, e)
     go false e ih =
-        let big : 128 ≤ n = ltb-false n 128 e in
-        let b = 128 + n % 128 in
+        let big : 128 ≤ n = ltb-false n 128 e in let b = 128 + n % 128 in
         rw (e, le-ltb b 128 (omega arith), lt-ltb b 256 (omega arith), ih, carry-got b (n / 128) rest (omega arith))
         (ap (λ (v : ℕ). got v rest) (omega arith))
 
@@ -52,16 +51,13 @@ record Spelt (left : ℕ) (bs : List ℕ) (n : ℕ) (rest : List ℕ) : Type 0 w
 highest : (b : ℕ) (bs : List ℕ) (n : ℕ) (rest : List ℕ) (t : Bool) → ltb b 16 ≡ t → cond t (got b bs) (refused 16) ≡ got n rest
     → Spelt zero (b ∷ bs) n rest
 unfolding digits top
-highest b bs n rest true t e = record {
-  spelt = cc;
-  small = let v : b ≡ n = got-value e in omega (arith, ltb-true b 16 t);
-}
+highest b bs n rest true t e = record { spelt = cc; small = let v : b ≡ n = got-value e in omega (arith, ltb-true b 16 t) }
 highest b bs n rest false t e = never (sym e)
 
 -- a last group is the number itself
-last-group : (left b : ℕ) (bs : List ℕ) (n : ℕ) (rest : List ℕ) → b < 128 → got b bs ≡ got n rest → Spelt (suc left) (b ∷ bs) n rest
+last-group-is : (left b : ℕ) (bs : List ℕ) (n : ℕ) (rest : List ℕ) → b < 128 → got b bs ≡ got n rest → Spelt (suc left) (b ∷ bs) n rest
 unfolding digits top
-last-group left b bs n rest h e = record {
+last-group-is left b bs n rest h e = record {
   spelt = rw (← got-value e, ← got-rest e, lt-ltb b 128 h);
   small = let v : b ≡ n = got-value e in omega (arith, top-pos left);
 }
@@ -72,11 +68,8 @@ more-groups : (left b : ℕ) (bs : List ℕ) (n : ℕ) (rest : List ℕ) → 128
 unfolding carry digits top
 more-groups left b bs n rest low high (got zero after) ih e = never (sym e)
 more-groups left b bs n rest low high (got (suc v) after) ih e =
-    let is : b - 128 + 128 * suc v ≡ n = got-value e in
-    let sp = ih (suc v) after refl in
-    let top-digit : 128 + n % 128 ≡ b = omega arith in
-    let others : n / 128 ≡ suc v = omega arith in
-    record {
+    let is : b - 128 + 128 * suc v ≡ n = got-value e in let sp = ih (suc v) after refl in
+    let top-digit : 128 + n % 128 ≡ b = omega arith in let others : n / 128 ≡ suc v = omega arith in record {
       spelt = rw (le-ltb n 128 (omega arith), top-digit, others, ← got-rest e, ← sp .spelt);
       small = let s : suc v < top left = sp .small in omega arith;
     }
@@ -92,7 +85,7 @@ groups-only (suc left) (b ∷ bs) n rest e = go (ltb b 128) refl (ltb b 256) ref
     go : (s : Bool) → ltb b 128 ≡ s → (t : Bool) → ltb b 256 ≡ t
         → ((v : ℕ) (after : List ℕ) → groups left bs ≡ got v after → Spelt left bs v after)
         → cond s (got b bs) (cond t (carry b (groups left bs)) (refused 16)) ≡ got n rest → Spelt (suc left) (b ∷ bs) n rest
-    go true s t t-is ih e = last-group left b bs n rest (ltb-true b 128 s) e
+    go true s t t-is ih e = last-group-is left b bs n rest (ltb-true b 128 s) e
     go false s true t ih e = more-groups left b bs n rest (ltb-false b 128 s) (ltb-true b 256 t) (groups left bs) ih e
     go false s false t ih e = never (sym e)
 
@@ -119,7 +112,8 @@ groups-stays zero (b ∷ bs) more k e h = go (ltb b 16) e
     go : (t : Bool) → cond t (got b bs) (refused 16) ≡ refused k → cond t (got b (bs ++ more)) (refused 16) ≡ refused k
     go true e = never e
     go false e = e
-groups-stays (suc left) (b ∷ bs) more k e h = go (ltb b 128) (ltb b 256) (carry-stays b left bs more (groups-stays left bs more) (groups left bs) refl) e
+groups-stays (suc left) (b ∷ bs) more k e h =
+    go (ltb b 128) (ltb b 256) (carry-stays b left bs more (groups-stays left bs more) (groups left bs) refl) e
   where
     go : (s t : Bool) → Stays (carry b (groups left bs)) (carry b (groups left (bs ++ more)))
         → cond s (got b bs) (cond t (carry b (groups left bs)) (refused 16)) ≡ refused k
@@ -130,22 +124,22 @@ groups-stays (suc left) (b ∷ bs) more k e h = go (ltb b 128) (ltb b 256) (carr
 
 -- ---- the three laws of a number
 
-pub number-back : (n : ℕ) (rest : List ℕ) → n < 4294967296 → readNumber (writeNumber n ++ rest) ≡ got n rest
-unfolding readNumber writeNumber top
+pub number-back : (n : ℕ) (rest : List ℕ) → n < 4294967296 → read-number (write-number n ++ rest) ≡ got n rest
+unfolding read-number write-number top
 number-back n rest h = digits-back 4 n rest h
 
-pub number-only : (bs : List ℕ) (n : ℕ) (rest : List ℕ) → readNumber bs ≡ got n rest → (bs ≡ writeNumber n ++ rest) × (n < 4294967296)
-unfolding readNumber writeNumber top
+pub number-only : (bs : List ℕ) (n : ℕ) (rest : List ℕ) → read-number bs ≡ got n rest → (bs ≡ write-number n ++ rest) × (n < 4294967296)
+unfolding read-number write-number top
 number-only bs n rest e = let s = groups-only 4 bs n rest e in (s .spelt, s .small)
 
-pub number-stays : (bs more : List ℕ) → Stays (readNumber bs) (readNumber (bs ++ more))
-unfolding readNumber
+pub number-stays : (bs more : List ℕ) → Stays (read-number bs) (read-number (bs ++ more))
+unfolding read-number
 number-stays bs more = groups-stays 4 bs more
 
 -- ---- how many bytes a number takes
 
-pub number-some : (n : ℕ) → 0 < length (writeNumber n)
-unfolding writeNumber digits
+pub number-some : (n : ℕ) → 0 < length (write-number n)
+unfolding write-number digits
 number-some n = go (ltb n 128)
   where
     go : (t : Bool) → 0 < length (cond t (n ∷ []) ((128 + n % 128) ∷ digits 3 (n / 128)))
@@ -161,8 +155,8 @@ digits-short (suc left) n = go (ltb n 128) (digits-short left (n / 128))
     go true h = omega arith
     go false h = omega arith
 
-pub number-short : (n : ℕ) → length (writeNumber n) ≤ 5
-unfolding writeNumber
+pub number-short : (n : ℕ) → length (write-number n) ≤ 5
+unfolding write-number
 number-short n = digits-short 4 n
 
 groups-enough : (left : ℕ) (bs : List ℕ) → groups left bs ≡ refused 15 → length bs < suc left
@@ -187,6 +181,6 @@ groups-enough (suc left) (b ∷ bs) e = go (ltb b 128) (ltb b 256) (λ q. groups
     go false true ih e = let h = ih (back (groups left bs) e) in omega arith
     go false false ih e = let z : _≡_ {A = ℕ} 16 15 = refused-number e in omega arith
 
-pub number-enough : (bs : List ℕ) → readNumber bs ≡ refused 15 → length bs < 5
-unfolding readNumber
+pub number-enough : (bs : List ℕ) → read-number bs ≡ refused 15 → length bs < 5
+unfolding read-number
 number-enough bs e = groups-enough 4 bs e

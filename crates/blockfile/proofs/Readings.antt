@@ -4,7 +4,7 @@ use mathlib.Core.Bool.{Bool, true, false}
 use mathlib.Core.List.{List, _++_}
 use Prim.Native.Nat.{ℕ}
 use native.Mathlib.Omega.{arith}
-use Rattle.blockfile.specs.Read.{Read, got, refused, andThen, test}
+use Rattle.blockfile.specs.Read.{Read, got, refused, and-then, test}
 
 pub got-value : {A : Type 0} {a b : A} {r s : List ℕ} → got a r ≡ got b s → a ≡ b
 got-value e = cc
@@ -29,17 +29,17 @@ pub record Steps {A B : Type 0} (r : Read A) (f : A → List ℕ → Read B) (b 
   pub first : r ≡ got value between
   pub second : f value between ≡ got b rest
 
-pub steps : {A B : Type 0} (r : Read A) (f : A → List ℕ → Read B) (b : B) (rest : List ℕ) → andThen r f ≡ got b rest → Steps r f b rest
-unfolding andThen
+pub steps : {A B : Type 0} (r : Read A) (f : A → List ℕ → Read B) (b : B) (rest : List ℕ) → and-then r f ≡ got b rest → Steps r f b rest
+unfolding and-then
 steps (got a between) f b rest e = record { value = a; between = between; first = refl; second = e }
 steps (refused k) f b rest e = never (sym e)
 
-pub andThen-stays : {A B : Type 0} (r s : Read A) (more : List ℕ) (f : A → List ℕ → Read B)
+pub and-then-stays : {A B : Type 0} (r s : Read A) (more : List ℕ) (f : A → List ℕ → Read B)
     → ((a : A) (rest : List ℕ) → r ≡ got a rest → s ≡ got a (rest ++ more)) → Stays r s
-    → ((a : A) (rest : List ℕ) → Stays (f a rest) (f a (rest ++ more))) → Stays (andThen r f) (andThen s f)
-unfolding andThen
-andThen-stays (got a rest) s more f whole stays later k e h = rw (whole a rest refl) (later a rest k e h)
-andThen-stays (refused j) s more f whole stays later k e h = rw (stays k (ap refused (refused-number e)) h)
+    → ((a : A) (rest : List ℕ) → Stays (f a rest) (f a (rest ++ more))) → Stays (and-then r f) (and-then s f)
+unfolding and-then
+and-then-stays (got a rest) s more f whole stays later k e h = rw (whole a rest refl) (later a rest k e h)
+and-then-stays (refused j) s more f whole stays later k e h = rw (stays k (ap refused (refused-number e)) h)
 
 pub passed : {A : Type 0} (t : Bool) (k : ℕ) (a b : A) (r s : List ℕ) → test t k a r ≡ got b s → (t ≡ true) × (got a r ≡ got b s)
 unfolding test
@@ -56,7 +56,7 @@ pub data Fell {A B : Type 0} (r : Read A) (f : A → List ℕ → Read B) (k : �
   early : r ≡ refused k → Fell r f k
   late : (a : A) (rest : List ℕ) → r ≡ got a rest → f a rest ≡ refused k → Fell r f k
 
-pub fell : {A B : Type 0} (r : Read A) (f : A → List ℕ → Read B) (k : ℕ) → andThen r f ≡ refused k → Fell r f k
-unfolding andThen
+pub fell : {A B : Type 0} (r : Read A) (f : A → List ℕ → Read B) (k : ℕ) → and-then r f ≡ refused k → Fell r f k
+unfolding and-then
 fell (got a rest) f k e = late a rest refl e
 fell (refused j) f k e = early (ap refused (refused-number e))

@@ -11,15 +11,17 @@ use borrow.Author.Tests.{leb-true, le-leb}
 use Rattle.whole.specs.Checks.{Check, accept, refuse}
 use Rattle.levels.specs.Plans.{shift-of}
 use Rattle.levels.proofs.Sizes.{Sided, shift-sided, side-bounds}
-use Rattle.strided.specs.Planes.{accepted}
+use Rattle.whole.specs.Checks.{accepted}
 use Rattle.blockfile.specs.Zigzag.{zig, zag}
 use Rattle.blockfile.specs.Form.{Form, number, followed, Each}
-use Rattle.blockfile.specs.Record.{sized, upTo, coefficient, pixel, size, Block, area, toHead, fromHead, toBlock, fromBlock, afterSize, headOf, samplesOf, recordOf, announces, fifth, count, form, Plain}
+use Rattle.blockfile.specs.Record.{sized, up-to, coefficient, pixel, size, Block, area, to-head, from-head, to-block, from-block}
+use Rattle.blockfile.specs.Record.{after-size, head-of, samples-of, record-of, announces, fifth, count, form, Plain}
 use Rattle.blockfile.specs.declared.record.Head.{Head}
 use Rattle.blockfile.proofs.Numbers.{number-short}
 use Rattle.blockfile.proofs.Zigzags.{zag-zig, zig-zag, zig-fits, fits-zig}
-use Rattle.blockfile.proofs.Forms.{Lawful, number-lawful, onlyIf-lawful, called-lawful, followed-lawful, times-lawful, each-map}
-use Rattle.blockfile.proofs.Rooms.{Room, more-room, number-room, onlyIf-room, called-room, followed-room, times-room, Some, some-number, some-onlyIf, some-called, some-followed}
+use Rattle.blockfile.proofs.Forms.{Lawful, number-lawful, only-if-lawful, called-lawful, followed-lawful, times-lawful, each-map}
+use Rattle.blockfile.proofs.Rooms.{Room, more-room, number-room, only-if-room, called-room, followed-room, times-room, Some}
+use Rattle.blockfile.proofs.Rooms.{some-number, some-only-if, some-called, some-followed}
 
 -- ---- sizes
 
@@ -35,9 +37,7 @@ pub sides-most : (w h : ℕ) → sized (w, h) ≡ true → (w ≤ 32) × (h ≤ 
 sides-most w h e = let s = sides w h e in (side-bounds w (s .0) .1, side-bounds h (s .1) .1)
 
 pub area-most : (h : Head) → sized (h .w, h .h) ≡ true → area h ≤ 1024
-area-most h e =
-    let s = sides-most (h .w) (h .h) e in
-    le-trans (mul-le-mul (s .0) (s .1)) (omega arith)
+area-most h e = let s = sides-most (h .w) (h .h) e in le-trans (mul-le-mul (s .0) (s .1)) (omega arith)
 
 -- ---- which values can be written
 
@@ -59,13 +59,13 @@ BlockWith F count b =
 
 -- ---- laws and room
 
-pub upTo-lawful : (most k : ℕ) → Lawful (upTo most k) (UpTo most)
-unfolding upTo
-upTo-lawful most k = onlyIf-lawful (λ n. leb n most) k number-lawful
+pub up-to-lawful : (most k : ℕ) → Lawful (up-to most k) (UpTo most)
+unfolding up-to
+up-to-lawful most k = only-if-lawful (λ n. leb n most) k number-lawful
 
-upTo-room : (most k : ℕ) → (k ≡ 15 → ⊥) → Room (upTo most k) (UpTo most) 5
-unfolding upTo
-upTo-room most k h = onlyIf-room (λ n. leb n most) k 5 h number-room
+up-to-room : (most k : ℕ) → (k ≡ 15 → ⊥) → Room (up-to most k) (UpTo most) 5
+unfolding up-to
+up-to-room most k h = only-if-room (λ n. leb n most) k 5 h number-room
 
 pub coefficient-lawful : Lawful coefficient (λ v. Below (zig v))
 unfolding coefficient
@@ -77,71 +77,69 @@ coefficient-room = called-room zag zig 5 number-room
 
 pub pixel-lawful : Lawful pixel (UpTo 65535)
 unfolding pixel
-pixel-lawful = upTo-lawful 65535 19
+pixel-lawful = up-to-lawful 65535 19
 
 pub pixel-room : Room pixel (UpTo 65535) 5
 unfolding pixel
-pixel-room = upTo-room 65535 19 (λ e. omega arith)
+pixel-room = up-to-room 65535 19 (λ e. omega arith)
 
 size-lawful : Lawful size Sized
 unfolding size
-size-lawful = onlyIf-lawful sized 1 (followed-lawful number-lawful (λ w. number-lawful))
+size-lawful = only-if-lawful sized 1 (followed-lawful number-lawful (λ w. number-lawful))
 
 size-room : Room size Sized 10
 unfolding size
-size-room = onlyIf-room sized 1 10 (λ e. omega arith) (followed-room 5 5 number-lawful number-room (λ w h. number-room))
+size-room = only-if-room sized 1 10 (λ e. omega arith) (followed-room 5 5 number-lawful number-room (λ w h. number-room))
 
 module _ {fifth : ℕ × ℕ → Form ℕ} {F : ℕ × ℕ → ℕ → Type 0} (count : Head → ℕ) (l : (s : ℕ × ℕ) → Lawful (fifth s) (F s)) where
-  pub head-lawful : Lawful (headOf fifth) (HeadWith F)
-  unfolding headOf
+  pub head-lawful : Lawful (head-of fifth) (HeadWith F)
+  unfolding head-of
   head-lawful =
-      called-lawful toHead fromHead (λ h. refl) (λ f. refl)
+      called-lawful to-head from-head (λ h. refl) (λ f. refl)
       (followed-lawful size-lawful (λ s. followed-lawful number-lawful (λ txtp. followed-lawful number-lawful (λ depth. l s))))
 
-  pub record-lawful : Lawful (recordOf fifth count) (BlockWith F count)
-  unfolding recordOf samplesOf
+  pub record-lawful : Lawful (record-of fifth count) (BlockWith F count)
+  unfolding record-of samples-of
   record-lawful =
-      called-lawful toBlock fromBlock (λ b. refl) (λ f. refl)
+      called-lawful to-block from-block (λ b. refl) (λ f. refl)
       (followed-lawful head-lawful (λ h. followed-lawful (times-lawful coefficient-lawful (count h)) (λ cs. times-lawful pixel-lawful (area h))))
 
   module _ (r : (s : ℕ × ℕ) → Room (fifth s) (F s) 5) (few : (h : Head) → HeadWith F h → count h ≤ area h) where
-    head-room : Room (headOf fifth) (HeadWith F) 25
-    unfolding headOf
+    head-room : Room (head-of fifth) (HeadWith F) 25
+    unfolding head-of
     head-room =
-        called-room toHead fromHead 25
-        (followed-room 10 15 size-lawful size-room
-        (λ s _. followed-room 5 10 number-lawful number-room
-        (λ txtp _. followed-room 5 5 number-lawful number-room
+        called-room to-head from-head 25 (followed-room 10 15 size-lawful size-room
+        (λ s _. followed-room 5 10 number-lawful number-room (λ txtp _. followed-room 5 5 number-lawful number-room
         (λ depth _. r s))))
 
-    samples-room : (h : Head) → HeadWith F h → Room (samplesOf count h) (λ f. Each (λ v. Below (zig v)) (count h) (f .0) × Each (UpTo 65535) (area h) (f .1)) 10240
-    unfolding samplesOf
+    samples-room : (h : Head) → HeadWith F h
+        → Room (samples-of count h) (λ f. Each (λ v. Below (zig v)) (count h) (f .0) × Each (UpTo 65535) (area h) (f .1)) 10240
+    unfolding samples-of
     samples-room h w =
-        let most = area-most h (w .0 .1) in
-        followed-room 5120 5120 (times-lawful coefficient-lawful (count h))
+        let most = area-most h (w .0 .1) in followed-room 5120 5120 (times-lawful coefficient-lawful (count h))
         (more-room (count h * 5) 5120 (times-room 5 coefficient-lawful coefficient-room (count h)) (omega (arith, few h w)))
         (λ cs _. more-room (area h * 5) 5120 (times-room 5 pixel-lawful pixel-room (area h)) (omega arith))
 
-    pub record-room : Room (recordOf fifth count) (BlockWith F count) 10265
-    unfolding recordOf
-    record-room = called-room toBlock fromBlock 10265 (followed-room 25 10240 head-lawful head-room samples-room)
+    pub record-room : Room (record-of fifth count) (BlockWith F count) 10265
+    unfolding record-of
+    record-room = called-room to-block from-block 10265 (followed-room 25 10240 head-lawful head-room samples-room)
 
-some-head : (fifth : ℕ × ℕ → Form ℕ) → Some (headOf fifth)
-unfolding headOf size
+some-head : (fifth : ℕ × ℕ → Form ℕ) → Some (head-of fifth)
+unfolding head-of size
 some-head fifth =
-    some-called (followed size (afterSize fifth)) toHead fromHead
-    (some-followed size (afterSize fifth) (some-onlyIf (followed number (λ w. number)) sized 1 (some-followed number (λ w. number) some-number)))
+    some-called (followed size (after-size fifth)) to-head from-head
+    (some-followed size (after-size fifth) (some-only-if (followed number (λ w. number)) sized 1 (some-followed number (λ w. number) some-number)))
 
-pub some-record : (fifth : ℕ × ℕ → Form ℕ) (count : Head → ℕ) → Some (recordOf fifth count)
-unfolding recordOf
+pub some-record : (fifth : ℕ × ℕ → Form ℕ) (count : Head → ℕ) → Some (record-of fifth count)
+unfolding record-of
 some-record fifth count =
-    some-called (followed (headOf fifth) (samplesOf count)) toBlock fromBlock (some-followed (headOf fifth) (samplesOf count) (some-head fifth))
+    some-called (followed (head-of fifth) (samples-of count)) to-block from-block (some-followed (head-of fifth) (samples-of count) (some-head fifth))
 
 -- ---- a record of either version
 
 pub fifth-lawful : (v : ℕ) (s : ℕ × ℕ) → Lawful (fifth v s) (λ n. Below n × (announces v (s .1) n ≡ true))
 unfolding fifth
-fifth-lawful v s = onlyIf-lawful (announces v (s .1)) (cond (eqb v 2) 5 16) number-lawful
+fifth-lawful v s = only-if-lawful (announces v (s .1)) (cond (eqb v 2) 5 16) number-lawful
 
 not-15 : (t : Bool) → _≡_ {A = ℕ} (cond t 5 16) 15 → ⊥
 not-15 true e = omega arith
@@ -149,7 +147,7 @@ not-15 false e = omega arith
 
 fifth-room : (v : ℕ) (s : ℕ × ℕ) → Room (fifth v s) (λ n. Below n × (announces v (s .1) n ≡ true)) 5
 unfolding fifth
-fifth-room v s = onlyIf-room (announces v (s .1)) (cond (eqb v 2) 5 16) 5 (not-15 (eqb v 2)) number-room
+fifth-room v s = only-if-room (announces v (s .1)) (cond (eqb v 2) 5 16) 5 (not-15 (eqb v 2)) number-room
 
 pub both : (s t : Bool) → s && t ≡ true → (s ≡ true) × (t ≡ true)
 both true true e = (refl, refl)
@@ -161,7 +159,8 @@ both false false e = (e, e)
 pub count-most : (v : ℕ) (h : Head) → announces v (h .h) (h .announced) ≡ true → count v h ≤ area h
 count-most v h = go (eqb v 2)
   where
-    go : (t : Bool) → cond t (leb 1 (h .announced) && leb (h .announced) (h .h)) (leb (h .announced) 2147483647) ≡ true → cond t (h .announced * h .w) (area h) ≤ area h
+    go : (t : Bool) → cond t (leb 1 (h .announced) && leb (h .announced) (h .h)) (leb (h .announced) 2147483647) ≡ true
+        → cond t (h .announced * h .w) (area h) ≤ area h
     go true e =
         let l = leb-true (h .announced) (h .h) (both (leb 1 (h .announced)) (leb (h .announced) (h .h)) e .1) in
         rw (mul-comm (h .w) (h .h)) (mul-le-mul-right (h .w) l)
@@ -210,12 +209,8 @@ pub coefficient-short : (v : ℤ) → length (coefficient .write v) ≤ 5
 unfolding coefficient
 coefficient-short v = number-short (zig v)
 
-pub pixel-short : (n : ℕ) → length (pixel .write n) ≤ 5
-unfolding pixel
-pixel-short n = number-short n
-
-pub head-short : (h : Head) → length (headOf (fifth 1) .write h) ≤ 25
-unfolding headOf size fifth
+pub head-short : (h : Head) → length (head-of (fifth 1) .write h) ≤ 25
+unfolding head-of size fifth
 head-short h =
     simp length-append
     (omega (arith, number-short (h .w), number-short (h .h), number-short (h .txtp), number-short (h .depth), number-short (h .announced)))

@@ -6,8 +6,8 @@ use mathlib.Core.List.{List, [], _∷_}
 use Prim.Native.Nat.{ℕ, zero, suc, _+_, _*_, _≤_, _<_}
 use native.Mathlib.Omega.{arith}
 use lib.ListN.{length, length-append}
-use Rattle.blockfile.specs.Read.{got, refused, andThen, test}
-use Rattle.blockfile.specs.Form.{Form, number, tested, onlyIf, named, called, second, written, followed, writeEach, readEach, times, Each}
+use Rattle.blockfile.specs.Read.{got, refused, and-then, test}
+use Rattle.blockfile.specs.Form.{Form, number, tested, only-if, named, called, second, written, followed, write-each, read-each, times, Each}
 use Rattle.blockfile.proofs.Readings.{refused-number, never, Fell, early, late, fell}
 use Rattle.blockfile.proofs.Numbers.{number-some, number-short, number-enough}
 use Rattle.blockfile.proofs.Forms.{Lawful}
@@ -29,25 +29,28 @@ unfolding test
 test-refusal true k a rest j e h = never e
 test-refusal false k a rest j e h = h (refused-number e)
 
-pub onlyIf-room : {A : Type 0} {c : Form A} {W : A → Type 0} (ok : A → Bool) (k n : ℕ) → (k ≡ 15 → ⊥) → Room c W n
-    → Room (onlyIf c ok k) (λ a. W a × (ok a ≡ true)) n
-unfolding onlyIf tested
-onlyIf-room {c} ok k n not-15 r = record { short = λ a h. r .short a (h .0); enough = λ bs e. r .enough bs (first bs (fell (c .read bs) (tested c ok k) 15 e)) }
+pub only-if-room : {A : Type 0} {c : Form A} {W : A → Type 0} (ok : A → Bool) (k n : ℕ) → (k ≡ 15 → ⊥) → Room c W n
+    → Room (only-if c ok k) (λ a. W a × (ok a ≡ true)) n
+unfolding only-if tested
+only-if-room {c} ok k n not-15 r = record
+    { short = λ a h. r .short a (h .0); enough = λ bs e. r .enough bs (first bs (fell (c .read bs) (tested c ok k) 15 e)) }
   where
     first : (bs : List ℕ) → Fell (c .read bs) (tested c ok k) 15 → c .read bs ≡ refused 15
     first bs (early e) = e
     first bs (late a rest e f) = absurd (test-refusal (ok a) k a rest 15 f not-15)
 
-pub called-room : {A B : Type 0} {c : Form A} {W : A → Type 0} (to : A → B) (from : B → A) (n : ℕ) → Room c W n → Room (called c to from) (λ b. W (from b)) n
+pub called-room : {A B : Type 0} {c : Form A} {W : A → Type 0} (to : A → B) (from : B → A) (n : ℕ) → Room c W n
+    → Room (called c to from) (λ b. W (from b)) n
 unfolding called named
-called-room {c} to from n r = record { short = λ b h. r .short (from b) h; enough = λ bs e. r .enough bs (first bs (fell (c .read bs) (named c to from) 15 e)) }
+called-room {c} to from n r =
+    record { short = λ b h. r .short (from b) h; enough = λ bs e. r .enough bs (first bs (fell (c .read bs) (named c to from) 15 e)) }
   where
     first : (bs : List ℕ) → Fell (c .read bs) (named c to from) 15 → c .read bs ≡ refused 15
     first bs (early e) = e
     first bs (late a rest e q) = never q
 
-pub followed-room : {A B : Type 0} {c : Form A} {W : A → Type 0} {d : A → Form B} {X : A → B → Type 0} (m n : ℕ) → Lawful c W → Room c W m → ((a : A) → W a → Room (d a) (X a) n)
-    → Room (followed c d) (λ p. W (p .0) × X (p .0) (p .1)) (m + n)
+pub followed-room : {A B : Type 0} {c : Form A} {W : A → Type 0} {d : A → Form B} {X : A → B → Type 0} (m n : ℕ) → Lawful c W
+    → Room c W m → ((a : A) → W a → Room (d a) (X a) n) → Room (followed c d) (λ p. W (p .0) × X (p .0) (p .1)) (m + n)
 unfolding followed written second
 followed-room {A} {B} {c} {d} m n l r s = record {
   short = λ p h. rw length-append (let x = r .short (p .0) (h .0) in let y = s (p .0) (h .0) .short (p .1) (h .1) in omega arith);
@@ -61,38 +64,35 @@ followed-room {A} {B} {c} {d} m n l r s = record {
     go : (bs : List ℕ) → Fell (c .read bs) (second c d) 15 → length bs < m + n
     go bs (early e) = let x = r .enough bs e in omega arith
     go bs (late a rest e q) =
-        let one = l .only bs a rest e in
-        let x = r .short a (one .1) in
+        let one = l .only bs a rest e in let x = r .short a (one .1) in
         let y = s a (one .1) .enough rest (later a rest (fell (d a .read rest) (λ b r. got (a, b) r) 15 q)) in
         rw (one .0, length-append) (omega arith)
 
 module _ {A : Type 0} {c : Form A} {W : A → Type 0} (m : ℕ) (l : Lawful c W) (r : Room c W m) where
-  each-short : (n : ℕ) (xs : List A) → Each W n xs → length (writeEach c xs) ≤ n * m
-  unfolding Each writeEach
+  each-short : (n : ℕ) (xs : List A) → Each W n xs → length (write-each c xs) ≤ n * m
+  unfolding Each write-each
   each-short zero [] h = omega arith
   each-short zero (x ∷ xs) h = absurd h
   each-short (suc n) [] h = absurd h
   each-short (suc n) (x ∷ xs) h =
-      let one = r .short x (h .0) in
-      let others = each-short n xs (h .1) in
-      rw length-append (omega arith)
+      let one = r .short x (h .0) in let others = each-short n xs (h .1) in rw length-append (omega arith)
 
-  each-enough : (n : ℕ) (bs : List ℕ) → readEach c n bs ≡ refused 15 → length bs < n * m
-  unfolding readEach
+  each-enough : (n : ℕ) (bs : List ℕ) → read-each c n bs ≡ refused 15 → length bs < n * m
+  unfolding read-each
   each-enough zero bs e = never e
-  each-enough (suc n) bs e = go (fell (c .read bs) (λ x rest. andThen (readEach c n rest) (λ xs r. got (x ∷ xs) r)) 15 e) (λ rest q. each-enough n rest q)
+  each-enough (suc n) bs e = go (fell (c .read bs) (λ x rest. and-then (read-each c n rest) (λ xs r. got (x ∷ xs) r)) 15 e)
+      (λ rest q. each-enough n rest q)
     where
-      later : (x : A) (rest : List ℕ) → Fell (readEach c n rest) (λ xs r. got (x ∷ xs) r) 15 → readEach c n rest ≡ refused 15
+      later : (x : A) (rest : List ℕ) → Fell (read-each c n rest) (λ xs r. got (x ∷ xs) r) 15 → read-each c n rest ≡ refused 15
       later x rest (early e) = e
       later x rest (late xs r e q) = never q
 
-      go : Fell (c .read bs) (λ x rest. andThen (readEach c n rest) (λ xs r. got (x ∷ xs) r)) 15
-          → ((rest : List ℕ) → readEach c n rest ≡ refused 15 → length rest < n * m) → length bs < suc n * m
+      go : Fell (c .read bs) (λ x rest. and-then (read-each c n rest) (λ xs r. got (x ∷ xs) r)) 15
+          → ((rest : List ℕ) → read-each c n rest ≡ refused 15 → length rest < n * m) → length bs < suc n * m
       go (early e) ih = let one = r .enough bs e in omega arith
       go (late x rest e q) ih =
-          let is = l .only bs x rest e in
-          let one = r .short x (is .1) in
-          let others = ih rest (later x rest (fell (readEach c n rest) (λ xs r. got (x ∷ xs) r) 15 q)) in
+          let is = l .only bs x rest e in let one = r .short x (is .1) in
+          let others = ih rest (later x rest (fell (read-each c n rest) (λ xs r. got (x ∷ xs) r) 15 q)) in
           rw (is .0, length-append) (omega arith)
 
   pub times-room : (n : ℕ) → Room (times c n) (Each W n) (n * m)
@@ -108,9 +108,9 @@ pub some-number : Some number
 unfolding number
 some-number n = number-some n
 
-pub some-onlyIf : {A : Type 0} (c : Form A) (ok : A → Bool) (k : ℕ) → Some c → Some (onlyIf c ok k)
-unfolding onlyIf
-some-onlyIf c ok k h a = h a
+pub some-only-if : {A : Type 0} (c : Form A) (ok : A → Bool) (k : ℕ) → Some c → Some (only-if c ok k)
+unfolding only-if
+some-only-if c ok k h a = h a
 
 pub some-called : {A B : Type 0} (c : Form A) (to : A → B) (from : B → A) → Some c → Some (called c to from)
 unfolding called

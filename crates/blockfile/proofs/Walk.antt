@@ -11,9 +11,9 @@ use lib.ListN.{length, getD, drop, drop-of-length-le, length-drop}
 use lib.Seq.{drop-cons}
 use borrow.Author.Tests.{lt-ltb, le-ltb, ne-eqb}
 use Rattle.blockfile.specs.Read.{Read, got, refused}
-use Rattle.blockfile.specs.Number.{readNumber, groups, carry}
+use Rattle.blockfile.specs.Number.{read-number, groups, carry}
 use Rattle.blockfile.specs.declared.number.Number.the-variants.{Got, Refused}
-use Rattle.blockfile.specs.Answer.{numberOf, numberAt, lastGroup}
+use Rattle.blockfile.specs.Inner.{number-of, number-from, last-group}
 use Rattle.blockfile.proofs.Numbers.{top, top-pos}
 
 -- what groups that came to `value`, the next of which counts `scale`, make of the number after them
@@ -22,19 +22,17 @@ folded scale value (got v rest) = cond (eqb v 0 && ltb 1 scale) (refused 17) (go
 folded scale value (refused k) = refused k
 
 pub record Reading (s : List ℕ) (at i left value scale : ℕ) : Type 0 where
-  pub so-far : readNumber (drop at s) ≡ folded scale value (groups left (drop i s))
+  pub so-far : read-number (drop at s) ≡ folded scale value (groups left (drop i s))
   pub room : scale * top left ≡ 4294967296
   pub below : value < scale
 
 folded-first : (r : Read ℕ) → r ≡ folded 1 0 r
 unfolding folded
-folded-first (got v rest) =
-    let one : v ≡ 0 + v * 1 = omega arith in
-    rw (and-false (eqb v 0)) (ap (λ (n : ℕ). got n rest) one)
+folded-first (got v rest) = let one : v ≡ 0 + v * 1 = omega arith in rw (and-false (eqb v 0)) (ap (λ (n : ℕ). got n rest) one)
 folded-first (refused k) = refl
 
 pub start : (s : List ℕ) (at : ℕ) → Reading s at at 4 0 1
-unfolding readNumber top
+unfolding read-number top
 start s at = record { so-far = folded-first (groups 4 (drop at s)); room = refl; below = omega arith }
 
 folded-carry : (b scale value : ℕ) → 0 < scale → (r : Read ℕ) → folded scale value (carry b r) ≡ folded (scale * 128) (value + (b - 128) * scale) r
@@ -46,50 +44,53 @@ folded-carry b scale value h (got (suc v) rest) =
 folded-carry b scale value h (refused k) = refl
 
 module _ {s : List ℕ} {at i left value scale : ℕ} (h : Reading s at i left value scale) where
-  pub ended : length s ≤ i → Refused 15 ≡ numberAt s at
-  unfolding numberAt folded numberOf groups
+  pub ended : length s ≤ i → Refused 15 ≡ number-from s at
+  unfolding number-from folded number-of groups
   ended e = rw (h .so-far, drop-of-length-le s e)
 
   module _ (inside : i < length s) where
     here : drop i s ≡ getD s i 0 ∷ drop (i + 1) s
     here = rw (add-one, drop-cons s i 0)
 
-    is-last : numberOf (length s) (folded scale value (got (getD s i 0) (drop (i + 1) s))) ≡ lastGroup value scale (getD s i 0) (i + 1)
-    unfolding numberOf folded lastGroup
+    is-last : number-of (length s) (folded scale value (got (getD s i 0) (drop (i + 1) s))) ≡ last-group value scale (getD s i 0) (i + 1)
+    unfolding number-of folded last-group
     is-last = go (eqb (getD s i 0) 0 && ltb 1 scale)
       where
-        go : (t : Bool) → numberOf (length s) (cond t (refused 17) (got (value + getD s i 0 * scale) (drop (i + 1) s))) ≡ cond t (Refused 17) (Got (value + getD s i 0 * scale) (i + 1))
+        go : (t : Bool) → number-of (length s) (cond t (refused 17) (got (value + getD s i 0 * scale) (drop (i + 1) s))) ≡ cond
+            t (Refused 17) (Got (value + getD s i 0 * scale) (i + 1))
         go true = refl
         go false = ap (λ (n : ℕ). Got (value + getD s i 0 * scale) n) (rw length-drop (omega arith))
 
-    pub highest-last : left ≡ 0 → getD s i 0 < 16 → lastGroup value scale (getD s i 0) (i + 1) ≡ numberAt s at
-    unfolding numberAt groups
+    pub highest-last : left ≡ 0 → getD s i 0 < 16 → last-group value scale (getD s i 0) (i + 1) ≡ number-from s at
+    unfolding number-from groups
     highest-last e b = rw (h .so-far, here, e, lt-ltb (getD s i 0) 16 b) (sym is-last)
 
-    pub highest-large : left ≡ 0 → 16 ≤ getD s i 0 → Refused 16 ≡ numberAt s at
-    unfolding numberAt groups folded numberOf
+    pub highest-large : left ≡ 0 → 16 ≤ getD s i 0 → Refused 16 ≡ number-from s at
+    unfolding number-from groups folded number-of
     highest-large e b = rw (h .so-far, here, e, le-ltb (getD s i 0) 16 b)
 
-    pub later-last : (left ≡ 0 → ⊥) → getD s i 0 < 128 → lastGroup value scale (getD s i 0) (i + 1) ≡ numberAt s at
-    unfolding numberAt groups
+    pub later-last : (left ≡ 0 → ⊥) → getD s i 0 < 128 → last-group value scale (getD s i 0) (i + 1) ≡ number-from s at
+    unfolding number-from groups
     later-last n b = go left n (h .so-far)
       where
-        go : (l : ℕ) → (l ≡ 0 → ⊥) → readNumber (drop at s) ≡ folded scale value (groups l (drop i s)) → lastGroup value scale (getD s i 0) (i + 1) ≡ numberOf (length s) (readNumber (drop at s))
+        go : (l : ℕ) → (l ≡ 0 → ⊥) → read-number (drop at s) ≡ folded scale value (groups l (drop i s))
+            → last-group value scale (getD s i 0) (i + 1) ≡ number-of (length s) (read-number (drop at s))
         go zero n e = absurd (n refl)
         go (suc l) n e = rw (e, here, lt-ltb (getD s i 0) 128 b) (sym is-last)
 
-    pub go-on : (left ≡ 0 → ⊥) → 128 ≤ getD s i 0 → getD s i 0 < 256 → Reading s at (i + 1) (left - 1) (value + (getD s i 0 - 128) * scale) (scale * 128)
+    pub go-on : (left ≡ 0 → ⊥) → 128 ≤ getD s i 0 → getD s i 0 < 256
+        → Reading s at (i + 1) (left - 1) (value + (getD s i 0 - 128) * scale) (scale * 128)
     unfolding groups top
     go-on n low high = go left n (h .so-far) (h .room) (h .below) (mul-le-mul-right scale (omega arith))
       where
-        go : (l : ℕ) → (l ≡ 0 → ⊥) → readNumber (drop at s) ≡ folded scale value (groups l (drop i s)) → scale * top l ≡ 4294967296 → value < scale
+        go : (l : ℕ) → (l ≡ 0 → ⊥) → read-number (drop at s) ≡ folded scale value (groups l (drop i s)) → scale * top l ≡ 4294967296 → value < scale
             → (getD s i 0 - 128) * scale ≤ 127 * scale
             → Reading s at (i + 1) (l - 1) (value + (getD s i 0 - 128) * scale) (scale * 128)
         go zero n e room below most = absurd (n refl)
         go (suc l) n e room below most =
-            let one : suc l - 1 ≡ l = omega arith in
-            rw one (record {
-              so-far = e ∙ rw (here, le-ltb (getD s i 0) 128 low, lt-ltb (getD s i 0) 256 high) (folded-carry (getD s i 0) scale value (omega arith) (groups l (drop (i + 1) s)));
+            let one : suc l - 1 ≡ l = omega arith in rw one (record {
+              so-far = e ∙ rw (here, le-ltb (getD s i 0) 128 low, lt-ltb (getD s i 0) 256 high)
+                  (folded-carry (getD s i 0) scale value (omega arith) (groups l (drop (i + 1) s)));
               room = omega arith;
               below = omega arith;
             })
@@ -102,8 +103,7 @@ module _ {s : List ℕ} {at i left value scale : ℕ} (h : Reading s at i left v
   unfolding top
   fits-highest b e small =
       let room : scale * 16 ≡ 4294967296 = rw e at (h .room) in
-      let most : b * scale ≤ 15 * scale = mul-le-mul-right scale (omega arith) in
-      omega (arith, h .below)
+      let most : b * scale ≤ 15 * scale = mul-le-mul-right scale (omega arith) in omega (arith, h .below)
 
   -- a group before it
   pub scale-most : (left ≡ 0 → ⊥) → scale * 128 ≤ 268435456
@@ -116,5 +116,4 @@ module _ {s : List ℕ} {at i left value scale : ℕ} (h : Reading s at i left v
 
   pub fits-later : (b : ℕ) → (left ≡ 0 → ⊥) → b < 128 → value + b * scale < 4294967296
   fits-later b n small =
-      let most : b * scale ≤ 127 * scale = mul-le-mul-right scale (omega arith) in
-      omega (arith, scale-most n, h .below)
+      let most : b * scale ≤ 127 * scale = mul-le-mul-right scale (omega arith) in omega (arith, scale-most n, h .below)

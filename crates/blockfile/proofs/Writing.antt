@@ -7,8 +7,8 @@ use native.Mathlib.Omega.{arith}
 use native.Mathlib.Numerals.{add-one}
 use lib.ListN.{length, take, set, getD, drop, length-append, drop-of-length-le}
 use lib.Seq.{sets, length-sets, sets-eq, take-at, drop-cons}
-use Rattle.blockfile.specs.Form.{Form, writeEach}
-use Rattle.blockfile.specs.Answer.{Put}
+use Rattle.blockfile.specs.Form.{Form, write-each}
+use Rattle.blockfile.specs.Inner.{Put}
 
 pub sets-append : {A : Type 0} (xs ys l : List A) (i : ℕ) → sets l i (xs ++ ys) ≡ sets (sets l i xs) (i + length xs) ys
 sets-append [] ys l i = ap (λ (j : ℕ). sets l j ys) (omega arith)
@@ -29,8 +29,8 @@ pub take-sets : {A : Type 0} (xs l : List A) (n : ℕ) → length xs ≡ n → n
 take-sets xs l n is h = rw (sets-eq xs l 0 (omega arith)) (take-at xs _ n is)
 
 -- values that take five bytes at most
-pub each-short : {A : Type 0} (c : Form A) → ((a : A) → length (c .write a) ≤ 5) → (xs : List A) → length (writeEach c xs) ≤ 5 * length xs
-unfolding writeEach
+pub each-short : {A : Type 0} (c : Form A) → ((a : A) → length (c .write a) ≤ 5) → (xs : List A) → length (write-each c xs) ≤ 5 * length xs
+unfolding write-each
 each-short c short [] = omega arith
 each-short c short (x ∷ xs) = rw length-append (omega (arith, short x, each-short c short xs))
 
@@ -40,8 +40,8 @@ leaves k r short w room = omega (arith, w .place, put-length w)
 
 module _ {A : Type 0} (c : Form A) (values : List A) (out₀ : List ℕ) (at : ℕ) where
   pub record Writing (out : List ℕ) (p i : ℕ) : Type 0 where
-    pub bytes : sets out₀ at (writeEach c values) ≡ sets out p (writeEach c (drop i values))
-    pub place : at + length (writeEach c values) ≡ p + length (writeEach c (drop i values))
+    pub bytes : sets out₀ at (write-each c values) ≡ sets out p (write-each c (drop i values))
+    pub place : at + length (write-each c values) ≡ p + length (write-each c (drop i values))
     pub count : i ≤ length values
     pub room : p + 5 * (length values - i) ≤ length out
     pub same-length : length out ≡ length out₀
@@ -50,13 +50,12 @@ module _ {A : Type 0} (c : Form A) (values : List A) (out₀ : List ℕ) (at : �
   begin h = record { bytes = refl; place = refl; count = omega arith; room = omega arith; same-length = refl }
 
   module _ {out : List ℕ} {p i : ℕ} (h : Writing out p i) where
-    pub one-more : (d : A) (bs : List ℕ) {next : List ℕ} {q : ℕ} → i < length values → c .write (getD values i d) ≡ bs → length bs ≤ 5 → Put bs out p next q
-        → Writing next q (i + 1)
-    unfolding writeEach
+    pub one-more : (d : A) (bs : List ℕ) {next : List ℕ} {q : ℕ} → i < length values → c .write (getD values i d) ≡ bs
+        → length bs ≤ 5 → Put bs out p next q → Writing next q (i + 1)
+    unfolding write-each
     one-more d bs {next} {q} inside is short w =
-        let others = writeEach c (drop (i + 1) values) in
-        let here : writeEach c (drop i values) ≡ bs ++ others = rw (drop-cons values i d, add-one, is) in
-        record {
+        let others = write-each c (drop (i + 1) values) in
+        let here : write-each c (drop i values) ≡ bs ++ others = rw (drop-cons values i d, add-one, is) in record {
           bytes = h .bytes ∙ ap (sets out p) here ∙ sets-append bs others out p ∙ (λ j. sets (sym (w .elements) j) (sym (w .place) j) others);
           place = h .place ∙ ap (λ (l : List ℕ). p + length l) here ∙ rw length-append (omega (arith, w .place));
           count = omega arith;
@@ -64,12 +63,11 @@ module _ {A : Type 0} (c : Form A) (values : List A) (out₀ : List ℕ) (at : �
           same-length = put-length w ∙ h .same-length;
         }
 
-    pub finish : length values ≤ i → Put (writeEach c values) out₀ at out p
-    unfolding writeEach
+    pub finish : length values ≤ i → Put (write-each c values) out₀ at out p
+    unfolding write-each
     finish e =
-        let none : drop i values ≡ [] = drop-of-length-le values e in
-        record {
-          elements = sym (h .bytes ∙ ap (λ (l : List A). sets out p (writeEach c l)) none);
-          place = sym (h .place ∙ ap (λ (l : List A). p + length (writeEach c l)) none ∙ omega arith);
+        let none : drop i values ≡ [] = drop-of-length-le values e in record {
+          elements = sym (h .bytes ∙ ap (λ (l : List A). sets out p (write-each c l)) none);
+          place = sym (h .place ∙ ap (λ (l : List A). p + length (write-each c l)) none ∙ omega arith);
           room = omega (arith, h .room, h .same-length);
         }

@@ -17,14 +17,9 @@ zag-odd n h = let e : n % 2 ≡ 1 = omega arith in rw e
 
 pub zag-zig : (v : ℤ) → zag (zig v) ≡ v
 unfolding zag zig
-zag-zig (pos n) =
-    let even : 2 * n % 2 ≡ 0 = omega arith in
-    let half : 2 * n / 2 ≡ n = omega arith in
-    rw (even, half)
+zag-zig (pos n) = let even : 2 * n % 2 ≡ 0 = omega arith in let half : 2 * n / 2 ≡ n = omega arith in rw (even, half)
 zag-zig (negsuc n) =
-    let odd : (2 * n + 1) % 2 ≡ 1 = omega arith in
-    let half : (2 * n + 1) / 2 ≡ n = omega arith in
-    rw (odd, half)
+    let odd : (2 * n + 1) % 2 ≡ 1 = omega arith in let half : (2 * n + 1) / 2 ≡ n = omega arith in rw (odd, half)
 
 pub zig-zag : (n : ℕ) → zig (zag n) ≡ n
 unfolding zag zig

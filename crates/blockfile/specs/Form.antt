@@ -2,25 +2,25 @@
 use mathlib.Core.Bool.{Bool}
 use mathlib.Core.List.{List, [], _∷_, _++_}
 use Prim.Native.Nat.{ℕ, zero, suc}
-use Rattle.blockfile.specs.Read.{Read, got, andThen, test}
-use Rattle.blockfile.specs.Number.{readNumber, writeNumber}
+use Rattle.blockfile.specs.Read.{Read, got, and-then, test}
+use Rattle.blockfile.specs.Number.{read-number, write-number}
 
 pub record Form (A : Type 0) : Type 0 where
   pub write : A → List ℕ
   pub read : List ℕ → Read A
 
 unfoldable pub number : Form ℕ
-unfolding readNumber writeNumber
-number = record { write = writeNumber; read = readNumber }
+unfolding read-number write-number
+number = record { write = write-number; read = read-number }
 
 -- c, of which a value that fails a test is refused by the number k
 module _ {A : Type 0} (c : Form A) (ok : A → Bool) (k : ℕ) where
   unfoldable pub tested : A → List ℕ → Read A
   tested a rest = test (ok a) k a rest
 
-  unfoldable pub onlyIf : Form A
-  unfolding tested test andThen
-  onlyIf = record { write = c .write; read = λ bs. andThen (c .read bs) tested }
+  unfoldable pub only-if : Form A
+  unfolding tested test and-then
+  only-if = record { write = c .write; read = λ bs. and-then (c .read bs) tested }
 
 -- c, its values called otherwise: `to` and `from` are inverse
 module _ {A B : Type 0} (c : Form A) (to : A → B) (from : B → A) where
@@ -28,35 +28,35 @@ module _ {A B : Type 0} (c : Form A) (to : A → B) (from : B → A) where
   named a rest = got (to a) rest
 
   unfoldable pub called : Form B
-  unfolding named andThen
-  called = record { write = λ b. c .write (from b); read = λ bs. andThen (c .read bs) named }
+  unfolding named and-then
+  called = record { write = λ b. c .write (from b); read = λ bs. and-then (c .read bs) named }
 
 -- c and then d, which may go by what c has
 module _ {A B : Type 0} (c : Form A) (d : A → Form B) where
   unfoldable pub second : A → List ℕ → Read (A × B)
-  second a bs = andThen (d a .read bs) (λ b rest. got (a, b) rest)
+  second a bs = and-then (d a .read bs) (λ b rest. got (a, b) rest)
 
   unfoldable pub written : A × B → List ℕ
   written p = c .write (p .0) ++ d (p .0) .write (p .1)
 
   unfoldable pub followed : Form (A × B)
-  unfolding second written andThen
-  followed = record { write = written; read = λ bs. andThen (c .read bs) second }
+  unfolding second written and-then
+  followed = record { write = written; read = λ bs. and-then (c .read bs) second }
 
 -- c, n times
 module _ {A : Type 0} (c : Form A) where
-  unfoldable pub writeEach : List A → List ℕ
-  writeEach [] = []
-  writeEach (x ∷ xs) = c .write x ++ writeEach xs
+  unfoldable pub write-each : List A → List ℕ
+  write-each [] = []
+  write-each (x ∷ xs) = c .write x ++ write-each xs
 
-  unfoldable pub readEach : ℕ → List ℕ → Read (List A)
-  unfolding andThen
-  readEach zero bs = got [] bs
-  readEach (suc n) bs = andThen (c .read bs) (λ x rest. andThen (readEach n rest) (λ xs r. got (x ∷ xs) r))
+  unfoldable pub read-each : ℕ → List ℕ → Read (List A)
+  unfolding and-then
+  read-each zero bs = got [] bs
+  read-each (suc n) bs = and-then (c .read bs) (λ x rest. and-then (read-each n rest) (λ xs r. got (x ∷ xs) r))
 
   unfoldable pub times : ℕ → Form (List A)
-  unfolding readEach writeEach
-  times n = record { write = writeEach; read = readEach n }
+  unfolding read-each write-each
+  times n = record { write = write-each; read = read-each n }
 
 -- n values, each with P
 unfoldable pub Each : {A : Type 0} → (A → Type 0) → ℕ → List A → Type 0

@@ -22,14 +22,14 @@ groups zero (b ∷ bs) = cond (ltb b 16) (got b bs) (refused 16)
 groups (suc left) (b ∷ bs) =
     cond (ltb b 128) (got b bs) (cond (ltb b 256) (carry b (groups left bs)) (refused 16))
 
-unfoldable pub readNumber : List ℕ → Read ℕ
+unfoldable pub read-number : List ℕ → Read ℕ
 unfolding groups
-readNumber bs = groups 4 bs
+read-number bs = groups 4 bs
 
 unfoldable pub digits : ℕ → ℕ → List ℕ
 digits zero n = n ∷ []
 digits (suc left) n = cond (ltb n 128) (n ∷ []) ((128 + n % 128) ∷ digits left (n / 128))
 
-unfoldable pub writeNumber : ℕ → List ℕ
+unfoldable pub write-number : ℕ → List ℕ
 unfolding digits
-writeNumber n = digits 4 n
+write-number n = digits 4 n

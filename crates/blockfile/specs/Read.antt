@@ -8,9 +8,9 @@ pub data Read (A : Type 0) : Type 0 where
   refused : ℕ → Read A
 
 -- reading goes on with what was got
-unfoldable pub andThen : {A B : Type 0} → Read A → (A → List ℕ → Read B) → Read B
-andThen (got a rest) f = f a rest
-andThen (refused k) f = refused k
+unfoldable pub and-then : {A B : Type 0} → Read A → (A → List ℕ → Read B) → Read B
+and-then (got a rest) f = f a rest
+and-then (refused k) f = refused k
 
 -- what was got passes a test, or is refused by the number k
 unfoldable pub test : {A : Type 0} → Bool → ℕ → A → List ℕ → Read A

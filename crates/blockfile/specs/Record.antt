@@ -10,18 +10,18 @@ use lib.IntN.{ℤ}
 use mir.Syntax.{w32}
 use mir.Val.{SFits}
 use Rattle.levels.specs.Plans.{shift-of}
-use Rattle.strided.specs.Planes.{accepted}
+use Rattle.whole.specs.Checks.{accepted}
 use Rattle.blockfile.specs.Zigzag.{zig, zag}
-use Rattle.blockfile.specs.Form.{Form, number, onlyIf, called, followed, times, Each}
+use Rattle.blockfile.specs.Form.{Form, number, only-if, called, followed, times, Each}
 use Rattle.blockfile.specs.declared.record.Head.{Head}
 
 -- one of the fourteen sizes of document 01
 unfoldable pub sized : ℕ × ℕ → Bool
 sized s = accepted (shift-of (s .0) (s .1))
 
-unfoldable pub upTo : ℕ → ℕ → Form ℕ
-unfolding onlyIf number
-upTo most k = onlyIf number (λ n. leb n most) k
+unfoldable pub up-to : ℕ → ℕ → Form ℕ
+unfolding only-if number
+up-to most k = only-if number (λ n. leb n most) k
 
 unfoldable pub coefficient : Form ℤ
 unfolding called number zag
@@ -29,13 +29,13 @@ coefficient = called number zag zig
 
 -- "19 pixel above 65535"
 unfoldable pub pixel : Form ℕ
-unfolding upTo
-pixel = upTo 65535 19
+unfolding up-to
+pixel = up-to 65535 19
 
 -- "the size is judged as soon as h is read"
 unfoldable pub size : Form (ℕ × ℕ)
-unfolding sized onlyIf followed number
-size = onlyIf (followed number (λ w. number)) sized 1
+unfolding sized only-if followed number
+size = only-if (followed number (λ w. number)) sized 1
 
 pub record Block : Type 0 where
   pub head : Head
@@ -45,33 +45,33 @@ pub record Block : Type 0 where
 abbrev pub area : Head → ℕ
 area h = h .w * h .h
 
-abbrev pub toHead : (ℕ × ℕ) × (ℕ × (ℕ × ℕ)) → Head
-toHead f = record { w = f .0 .0; h = f .0 .1; txtp = f .1 .0; depth = f .1 .1 .0; announced = f .1 .1 .1 }
+abbrev pub to-head : (ℕ × ℕ) × (ℕ × (ℕ × ℕ)) → Head
+to-head f = record { w = f .0 .0; h = f .0 .1; txtp = f .1 .0; depth = f .1 .1 .0; announced = f .1 .1 .1 }
 
-abbrev pub fromHead : Head → (ℕ × ℕ) × (ℕ × (ℕ × ℕ))
-fromHead h = ((h .w, h .h), (h .txtp, (h .depth, h .announced)))
+abbrev pub from-head : Head → (ℕ × ℕ) × (ℕ × (ℕ × ℕ))
+from-head h = ((h .w, h .h), (h .txtp, (h .depth, h .announced)))
 
-abbrev pub toBlock : Head × (List ℤ × List ℕ) → Block
-toBlock f = record { head = f .0; coefficients = f .1 .0; pixels = f .1 .1 }
+abbrev pub to-block : Head × (List ℤ × List ℕ) → Block
+to-block f = record { head = f .0; coefficients = f .1 .0; pixels = f .1 .1 }
 
-abbrev pub fromBlock : Block → Head × (List ℤ × List ℕ)
-fromBlock b = (b .head, (b .coefficients, b .pixels))
+abbrev pub from-block : Block → Head × (List ℤ × List ℕ)
+from-block b = (b .head, (b .coefficients, b .pixels))
 
 -- The fifth number is read by `fifth`, which may go by the size; `count` tells how many coefficients follow a head.
-abbrev pub afterSize : (ℕ × ℕ → Form ℕ) → ℕ × ℕ → Form (ℕ × (ℕ × ℕ))
-afterSize fifth s = followed number (λ txtp. followed number (λ depth. fifth s))
+abbrev pub after-size : (ℕ × ℕ → Form ℕ) → ℕ × ℕ → Form (ℕ × (ℕ × ℕ))
+after-size fifth s = followed number (λ txtp. followed number (λ depth. fifth s))
 
-unfoldable pub headOf : (ℕ × ℕ → Form ℕ) → Form Head
+unfoldable pub head-of : (ℕ × ℕ → Form ℕ) → Form Head
 unfolding size called followed
-headOf fifth = called (followed size (afterSize fifth)) toHead fromHead
+head-of fifth = called (followed size (after-size fifth)) to-head from-head
 
-unfoldable pub samplesOf : (Head → ℕ) → Head → Form (List ℤ × List ℕ)
+unfoldable pub samples-of : (Head → ℕ) → Head → Form (List ℤ × List ℕ)
 unfolding coefficient pixel times followed
-samplesOf count h = followed (times coefficient (count h)) (λ cs. times pixel (area h))
+samples-of count h = followed (times coefficient (count h)) (λ cs. times pixel (area h))
 
-unfoldable pub recordOf : (ℕ × ℕ → Form ℕ) → (Head → ℕ) → Form Block
-unfolding headOf samplesOf
-recordOf fifth count = called (followed (headOf fifth) (samplesOf count)) toBlock fromBlock
+unfoldable pub record-of : (ℕ × ℕ → Form ℕ) → (Head → ℕ) → Form Block
+unfolding head-of samples-of
+record-of fifth count = called (followed (head-of fifth) (samples-of count)) to-block from-block
 
 -- Whether a block of height h can announce the number n, in a file that begins with v: "16 .. eob above 2147483647" (E1); in version 2 "r, the
 -- live rows", and "5 is answered as soon as r is read" (E11).
@@ -79,8 +79,8 @@ abbrev pub announces : ℕ → ℕ → ℕ → Bool
 announces v h n = cond (eqb v 2) (leb 1 n && leb n h) (leb n 2147483647)
 
 unfoldable pub fifth : ℕ → ℕ × ℕ → Form ℕ
-unfolding onlyIf number
-fifth v s = onlyIf number (announces v (s .1)) (cond (eqb v 2) 5 16)
+unfolding only-if number
+fifth v s = only-if number (announces v (s .1)) (cond (eqb v 2) 5 16)
 
 -- how many coefficients the file has: all, or "only rows 0 to r-1"
 abbrev pub count : ℕ → Head → ℕ
@@ -88,8 +88,8 @@ count v h = cond (eqb v 2) (h .announced * h .w) (area h)
 
 -- a record of a file that begins with v
 unfoldable pub form : ℕ → Form Block
-unfolding recordOf fifth
-form v = recordOf (fifth v) (count v)
+unfolding record-of fifth
+form v = record-of (fifth v) (count v)
 
 -- which blocks such a file can hold
 pub record Plain (v : ℕ) (b : Block) : Type 0 where

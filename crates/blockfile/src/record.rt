@@ -4,8 +4,8 @@ ghost use mathlib.Core.Bool.{true, cond};
 ghost use Prim.Native.Nat.{_+_, _*_, _≤_};
 ghost use lib.Dec.{eqb};
 ghost use lib.ListN.{length};
-ghost use Rattle.blockfile.specs.Record.{sized, announces, count, headOf, fifth, form};
-ghost use Rattle.blockfile.specs.Answer.{headAt, RecordAt, Put, headRefusal};
+ghost use Rattle.blockfile.specs.Record.{sized, announces, count, head-of, fifth, form};
+ghost use Rattle.blockfile.specs.Inner.{head-at, RecordAt, Put, head-refusal};
 use crate::number::Number;
 use crate::number::read_number;
 use crate::number::refusal;
@@ -42,7 +42,7 @@ pub enum Found {
 
 // The number of a refusal; 0 of a head.
 fn head_refusal(r: HeadRead) -> u8
-    ensures { λ k. ⌜ k ≡ headRefusal r ⌝ }
+    ensures { λ k. ⌜ k ≡ head-refusal r ⌝ }
 {
     match r {
         HeadRead::Got { head: _, next: _ } => 0,
@@ -93,7 +93,7 @@ pub fn coefficient_count(version: u32, w: u32, h: u32, n: u32) -> u32
 
 // The head at the place `at`, in a file that begins with `version`.
 pub fn read_head(s: &[u8], at: usize, version: u32) -> HeadRead
-    ensures { λ r. ⌜ r ≡ headAt version (now (s .entry)) at ⌝ }
+    ensures { λ r. ⌜ r ≡ head-at version (now (s .entry)) at ⌝ }
 {
     let first = read_number(s, at);
     let Number::Got { value: w, next: a } = first else {
@@ -142,7 +142,8 @@ pub fn read_record(
     pixels: &mut [u16],
 ) -> Found
     requires { ⌜ (1024 ≤ length (now coefficients)) × (1024 ≤ length (now pixels)) ⌝ }
-    ensures { λ r. ⌜ RecordAt version (now (s .entry)) at (now (coefficients .entry)) (now (pixels .entry)) (now (coefficients .exit)) (now (pixels .exit)) r ⌝ }
+    ensures { λ r. ⌜ RecordAt version (now (s .entry)) at (now (coefficients .entry)) (now (pixels .entry))
+        (now (coefficients .exit)) (now (pixels .exit)) r ⌝ }
 {
     if s.len() <= at {
         return Found::End;
@@ -168,9 +169,9 @@ pub fn read_record(
 }
 
 // Writes a head at the place `at`, where 25 bytes have room, and answers the place after it.
-pub fn write_head(out: &mut [u8], at: usize, head: Head) -> usize
+fn write_head(out: &mut [u8], at: usize, head: Head) -> usize
     requires { ⌜ at + 25 ≤ length (now out) ⌝ }
-    ensures { λ r. ⌜ Put (headOf (fifth 1) .write head) (now (out .entry)) at (now (out .exit)) r ⌝ }
+    ensures { λ r. ⌜ Put (head-of (fifth 1) .write head) (now (out .entry)) at (now (out .exit)) r ⌝ }
 {
     let a = write_number(out, at, head.w);
     let b = write_number(out, a, head.h);
@@ -188,7 +189,9 @@ pub fn write_record(
     pixels: &[u16],
 ) -> usize
     requires { ⌜ (at + 10265 ≤ length (now out)) × (length (now coefficients) ≤ 1024) × (length (now pixels) ≤ 1024) ⌝ }
-    ensures { λ r. ⌜ Put (form 1 .write (record { head = head; coefficients = now (coefficients .entry); pixels = now (pixels .entry) })) (now (out .entry)) at (now (out .exit)) r ⌝ }
+    ensures { λ r. ⌜ Put (form 1 .write
+        (record { head = head; coefficients = now (coefficients .entry); pixels = now (pixels .entry) })) (now (out .entry))
+        at (now (out .exit)) r ⌝ }
 {
     let p = write_head(out, at, head);
     let q = write_coefficients(out, p, coefficients);

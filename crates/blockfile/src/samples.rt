@@ -2,9 +2,9 @@
 ghost use Prim.Native.Nat.{_+_, _*_, _≤_};
 ghost use mathlib.Core.Path.{_≡_};
 ghost use lib.ListN.{length};
-ghost use Rattle.blockfile.specs.Form.{writeEach};
+ghost use Rattle.blockfile.specs.Form.{write-each};
 ghost use Rattle.blockfile.specs.Record.{pixel, coefficient};
-ghost use Rattle.blockfile.specs.Answer.{placeRefusal, Filled, Put};
+ghost use Rattle.blockfile.specs.Inner.{place-refusal, Filled, Put};
 use crate::number::Number;
 use crate::number::coefficient_of;
 use crate::number::number_of;
@@ -19,7 +19,7 @@ pub enum Place {
 
 // The number of a refusal; 0 of a place.
 pub fn refusal(p: Place) -> u8
-    ensures { λ k. ⌜ k ≡ placeRefusal p ⌝ }
+    ensures { λ k. ⌜ k ≡ place-refusal p ⌝ }
 {
     match p {
         Place::At(_) => 0,
@@ -75,7 +75,7 @@ pub fn read_pixels(s: &[u8], at: usize, n: usize, out: &mut [u16]) -> Place
 // Writes the coefficients at the place `at`, where each has room for five bytes, and answers the place after them.
 pub fn write_coefficients(out: &mut [u8], at: usize, values: &[i32]) -> usize
     requires { ⌜ at + 5 * length (now values) ≤ length (now out) ⌝ }
-    ensures { λ r. ⌜ Put (writeEach coefficient (now (values .entry))) (now (out .entry)) at (now (out .exit)) r ⌝ }
+    ensures { λ r. ⌜ Put (write-each coefficient (now (values .entry))) (now (out .entry)) at (now (out .exit)) r ⌝ }
 {
     let mut p = at;
     let mut i = 0;
@@ -90,7 +90,7 @@ pub fn write_coefficients(out: &mut [u8], at: usize, values: &[i32]) -> usize
 // Writes the pixels at the place `at`, where each has room for five bytes, and answers the place after them.
 pub fn write_pixels(out: &mut [u8], at: usize, values: &[u16]) -> usize
     requires { ⌜ at + 5 * length (now values) ≤ length (now out) ⌝ }
-    ensures { λ r. ⌜ Put (writeEach pixel (now (values .entry))) (now (out .entry)) at (now (out .exit)) r ⌝ }
+    ensures { λ r. ⌜ Put (write-each pixel (now (values .entry))) (now (out .entry)) at (now (out .exit)) r ⌝ }
 {
     let mut p = at;
     let mut i = 0;

@@ -31,10 +31,12 @@ row-of h x y l = ap (λ (n : ℕ). n % h) (omega arith) ∙ add-mul-mod-self-rig
 
 -- a coefficient of a live row is no stray, and one of a dead row is where it is not zero
 pub in-live : (r h : ℕ) (c : List ℤ) (x y : ℕ) → y < h → y < r → in-dead-row r h c (x * h + y) ≡ false
-in-live r h c x y l g = ap (λ (n : ℕ). leb r n && nonzero (at c (x * h + y))) (row-of h x y l) ∙ ap (λ (b : Bool). b && nonzero (at c (x * h + y))) (lt-leb r y g)
+in-live r h c x y l g = ap (λ (n : ℕ). leb r n && nonzero (at c (x * h + y))) (row-of h x y l)
+    ∙ ap (λ (b : Bool). b && nonzero (at c (x * h + y))) (lt-leb r y g)
 
 pub in-dead : (r h : ℕ) (c : List ℤ) (x y : ℕ) → y < h → r ≤ y → in-dead-row r h c (x * h + y) ≡ nonzero (at c (x * h + y))
-in-dead r h c x y l g = ap (λ (n : ℕ). leb r n && nonzero (at c (x * h + y))) (row-of h x y l) ∙ ap (λ (b : Bool). b && nonzero (at c (x * h + y))) (le-leb r y g)
+in-dead r h c x y l g = ap (λ (n : ℕ). leb r n && nonzero (at c (x * h + y))) (row-of h x y l)
+    ∙ ap (λ (b : Bool). b && nonzero (at c (x * h + y))) (le-leb r y g)
 
 -- the live rows of column x
 pub clean-live : (r h : ℕ) (c : List ℤ) (x y : ℕ) → y ≤ h → y ≤ r → Clean (in-dead-row r h c) (x * h) → Clean (in-dead-row r h c) (x * h + y)
@@ -43,8 +45,7 @@ clean-live r h c x y l g f j k = go (ltb j (x * h)) refl
     go : (b : Bool) → ltb j (x * h) ≡ b → in-dead-row r h c j ≡ false
     go true e = f j (ltb-true j (x * h) e)
     go false e =
-        let q : x * h ≤ j = ltb-false j (x * h) e in
-        let p : x * h + (j - x * h) ≡ j = omega arith in
+        let q : x * h ≤ j = ltb-false j (x * h) e in let p : x * h + (j - x * h) ≡ j = omega arith in
         subst (λ (i : ℕ). in-dead-row r h c i ≡ false) p (in-live r h c x (j - x * h) (omega arith) (omega arith))
 
 -- the code's test, of the bits

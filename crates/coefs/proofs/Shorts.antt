@@ -22,5 +22,7 @@ module _ (v : ℤ) (f : SFits w16 v) where
 
 -- it is in the row range of depth 8
 pub short-inside : (v : ℤ) → SFits w16 v → outside v (low 32768) (high 32768) ≡ false
-short-inside (pos n) f = let l : n < 32768 = f .sfits in not-outside (low 32768) (high 32768) (pos n) (record { above = omega arith; below = omega arith })
-short-inside (negsuc n) f = let l : n < 32768 = f .sfits in not-outside (low 32768) (high 32768) (negsuc n) (record { above = omega arith; below = omega arith })
+short-inside (pos n) f = let l : n < 32768 = f .sfits in
+    not-outside (low 32768) (high 32768) (pos n) (record { above = omega arith; below = omega arith })
+short-inside (negsuc n) f = let l : n < 32768 = f .sfits in
+    not-outside (low 32768) (high 32768) (negsuc n) (record { above = omega arith; below = omega arith })

@@ -7,13 +7,11 @@ ghost use lib.IntN.{pos};
 ghost use lib.ListN.{length, replicate, drop};
 ghost use Rattle.whole.specs.Numbers as Numbers;
 ghost use Rattle.whole.specs.Lists.{at, any, first};
-ghost use Rattle.coefs.specs.Coefs.{found, in-dead-row, Zeros, ZeroRows, Covers, Alike, NoneOutside};
+ghost use Rattle.coefs.specs.Coefs.{in-dead-row, Covers};
+ghost use Rattle.coefs.specs.Inner.{Zeros, ZeroRows, Alike, NoneOutside};
+ghost use Rattle.intops.specs.Searches.{found};
+use intops::Found;
 use intops::outside;
-
-pub enum Found {
-    At(usize),
-    Nothing,
-}
 
 // Whether one of the first n coefficients lies outside the range.
 fn any_outside(c: &[i32], n: usize, min: i32, max: i32) -> bool
@@ -57,7 +55,8 @@ pub fn first_outside(c: &[i32], w: usize, h: usize, min: i32, max: i32) -> Found
     Found::Nothing
 }
 
-// The first n coefficients of 16 bits are in the row range of depth 8 (E2). Each is read to know that; nothing comes of it, so the compiler leaves the loop out.
+// The first n coefficients of 16 bits are in the row range of depth 8 (E2). Each is read to know that; nothing comes of it, so the compiler
+// leaves the loop out.
 pub fn none_outside_8bpc(c: &[i16], n: usize)
     requires { ⌜ n ≤ length (now c) ⌝ }
     ensures { λ _. ⌜ NoneOutside n (now (c .entry)) ⌝ }

@@ -1,5 +1,5 @@
--- The steps by halves, on a work array with nothing after its elements, leave what the table's order of steps leaves, over any values; and its butterflies
--- meet the same values, so the same clips act. Both are computed once a length.
+-- The steps by halves, on a work array with nothing after its elements, leave what the table's order of steps leaves, over any values;
+-- and its butterflies meet the same values, so the same clips act. Both are computed once a length.
 use mathlib.Core.Path.{_≡_, refl, sym, ap, _∙_}
 use mathlib.Core.Bool.{Bool, true, false, cond, _&&_, _||_}
 use mathlib.Core.List.{List, [], _∷_, _++_}
@@ -9,7 +9,7 @@ use lib.IntN.{ℤ, _+ℤ_, _-ℤ_}
 use lib.ListN.{getD, replicate}
 use Rattle.whole.specs.Numbers.{outside}
 use Rattle.whole.specs.Lists.{at, tab}
-use Rattle.av1.specs.Sides.{Side, of4, of8, of16, of32, len, bits}
+use Rattle.levels.specs.Sides.{Side, of4, of8, of16, of32, len, bits}
 use Rattle.av1.specs.Network.{Alg, Step, B, H, step, run, steps}
 use Rattle.av1.specs.Values.{clipped, hit, hits}
 use Rattle.dct.specs.Halves.{before, last}
@@ -97,6 +97,11 @@ or-no false = refl
 pub or-yes : (a : Bool) → a || true ≡ true
 or-yes true = refl
 or-yes false = refl
+
+pub or-more : (m o h : Bool) → (m || (o || false)) || h ≡ m || (o || h)
+or-more true o h = refl
+or-more false true h = refl
+or-more false false h = refl
 
 module _ (lo hi : ℤ) where
   abbrev clips : ℤ → ℤ → Bool

@@ -2,16 +2,20 @@
 use mathlib.Core.Path.{_≡_}
 use mathlib.Core.Bool.{Bool, true, false, cond, _&&_}
 use mathlib.Core.List.{List, [], _∷_, _++_}
-use Prim.Native.Nat.{ℕ, _%_}
+use Prim.Native.Nat.{ℕ, _-_, _%_}
 use lib.Dec.{eqb}
 use lib.IntN.{ℤ}
-use lib.ListN.{length, set}
+use lib.ListN.{length, set, take, drop}
 use Rattle.whole.specs.Lists.{tab}
 use Rattle.whole.specs.Both.{Both}
 use Rattle.av1.specs.Network.{Step, B, H, run}
 use Rattle.av1.specs.Values.{clipped, hits}
 use Rattle.dct.specs.Halves.{before, last}
 use Rattle.dct.specs.Fitting.{Able, Ends, Small}
+
+-- steps i to before j of the DCT of 32 points by halves, which begins with those of 4, 8 and 16 points
+abbrev pub cut : ℕ → ℕ → List Step
+cut i j = take (j - i) (drop i (before 4 ++ last 4))
 
 -- u to a and v to b, or exchanged
 abbrev pub stored : ℕ → ℕ → Bool → ℤ → ℤ → List ℤ → List ℤ

@@ -141,16 +141,31 @@ fn joins(t: &mut [i32; 32], pairs: &[usize], min: i32, max: i32) -> bool
     mark
 }
 
-// inv_dct4_1d_internal_c on the first four elements. What it leaves is in the order of the outputs. With `tx64` the upper half of the inputs, which stands
-// at the odd places, is zero.
+// Tables: P has the pairs of a stage's turns, A their angles, J the pairs of its butterflies.
+pub const A45: [i32; 2] = [2896, 2896];
+
+pub const A4: [i32; 2] = [1567, 3784];
+
+pub const J4: [usize; 4] = [0, 3, 1, 2];
+
+// inv_dct4_1d_internal_c on the first four elements. What it leaves is in the order of the outputs. With `tx64` the upper half of
+// the inputs, which stands at the odd places, is zero.
 pub fn dct4(t: &mut [i32; 32], tx64: bool, min: i32, max: i32) -> bool
     requires { ⌜ Stages.Ready tx64 (now t) min max ⌝ }
     ensures { λ r. ⌜ Stages.Through 1 min max (now (t .entry)) (now (t .exit)) r ⌝ }
 {
-    first(&mut *t, tx64, &[0, 1], &[2896, 2896], true);
-    first(&mut *t, tx64, &[2, 3], &[1567, 3784], false);
-    joins(&mut *t, &[0, 3, 1, 2], min, max)
+    first(&mut *t, tx64, &[0, 1], &A45, true);
+    first(&mut *t, tx64, &[2, 3], &A4, false);
+    joins(&mut *t, &J4, min, max)
 }
+
+pub const P8: [usize; 4] = [4, 7, 5, 6];
+
+pub const A8: [i32; 4] = [799, 4017, 3406, 2276];
+
+pub const J8: [usize; 4] = [4, 5, 7, 6];
+
+pub const LAST8: [usize; 8] = [0, 7, 1, 6, 2, 5, 3, 4];
 
 // inv_dct8_1d_internal_c: the half on the even inputs, which stand first, the odd ones, and the last butterflies. Each may raise the mark.
 pub fn dct8(t: &mut [i32; 32], tx64: bool, min: i32, max: i32) -> bool
@@ -158,28 +173,30 @@ pub fn dct8(t: &mut [i32; 32], tx64: bool, min: i32, max: i32) -> bool
     ensures { λ r. ⌜ Stages.Through 2 min max (now (t .entry)) (now (t .exit)) r ⌝ }
 {
     let half = dct4(&mut *t, tx64, min, max);
-    first(
-        &mut *t,
-        tx64,
-        &[4, 7, 5, 6],
-        &[799, 4017, 3406, 2276],
-        false,
-    );
-    let odd = joins(&mut *t, &[4, 5, 7, 6], min, max);
-    turns(&mut *t, &[6, 5], &[2896, 2896], true);
-    let last = joins(&mut *t, &[0, 7, 1, 6, 2, 5, 3, 4], min, max);
+    first(&mut *t, tx64, &P8, &A8, false);
+    let odd = joins(&mut *t, &J8, min, max);
+    turns(&mut *t, &[6, 5], &A45, true);
+    let last = joins(&mut *t, &LAST8, min, max);
     half | odd | last
 }
 
-const TURNS16: [usize; 8] = [8, 15, 9, 14, 10, 13, 11, 12];
+pub const P16: [usize; 8] = [8, 15, 9, 14, 10, 13, 11, 12];
 
-const ANGLES16: [i32; 8] = [401, 4076, 3166, 2598, 1931, 3612, 3920, 1189];
+pub const A16: [i32; 8] = [401, 4076, 3166, 2598, 1931, 3612, 3920, 1189];
 
-const JOINS16: [usize; 8] = [8, 9, 11, 10, 12, 13, 15, 14];
+pub const J16: [usize; 8] = [8, 9, 11, 10, 12, 13, 15, 14];
 
-const JOINS16A: [usize; 8] = [8, 11, 9, 10, 15, 12, 14, 13];
+pub const P16A: [usize; 4] = [14, 9, 13, 10];
 
-const LAST16: [usize; 16] = [0, 15, 1, 14, 2, 13, 3, 12, 4, 11, 5, 10, 6, 9, 7, 8];
+pub const A16A: [i32; 4] = [1567, 3784, -3784, 1567];
+
+pub const J16A: [usize; 8] = [8, 11, 9, 10, 15, 12, 14, 13];
+
+pub const P16B: [usize; 4] = [13, 10, 12, 11];
+
+pub const A16B: [i32; 4] = [2896, 2896, 2896, 2896];
+
+pub const LAST16: [usize; 16] = [0, 15, 1, 14, 2, 13, 3, 12, 4, 11, 5, 10, 6, 9, 7, 8];
 
 // inv_dct16_1d_internal_c.
 pub fn dct16(t: &mut [i32; 32], tx64: bool, min: i32, max: i32) -> bool
@@ -187,54 +204,25 @@ pub fn dct16(t: &mut [i32; 32], tx64: bool, min: i32, max: i32) -> bool
     ensures { λ r. ⌜ Stages.Through 3 min max (now (t .entry)) (now (t .exit)) r ⌝ }
 {
     let half = dct8(&mut *t, tx64, min, max);
-    first(&mut *t, tx64, &TURNS16, &ANGLES16, false);
-    let odd = joins(&mut *t, &JOINS16, min, max);
-    turns(&mut *t, &[14, 9, 13, 10], &[1567, 3784, -3784, 1567], true);
-    let odd_a = joins(&mut *t, &JOINS16A, min, max);
-    turns(&mut *t, &[13, 10, 12, 11], &[2896, 2896, 2896, 2896], true);
+    first(&mut *t, tx64, &P16, &A16, false);
+    let odd = joins(&mut *t, &J16, min, max);
+    turns(&mut *t, &P16A, &A16A, true);
+    let odd_a = joins(&mut *t, &J16A, min, max);
+    turns(&mut *t, &P16B, &A16B, true);
     let last = joins(&mut *t, &LAST16, min, max);
     half | odd | odd_a | last
 }
 
-const TURNS32: [usize; 16] = [
-    16,
-    31,
-    17,
-    30,
-    18,
-    29,
-    19,
-    28,
-    20,
-    27,
-    21,
-    26,
-    22,
-    25,
-    23,
-    24,
-];
+// The first turns of 32 points in two runs of four, and the last butterflies in two of eight: a longer table would be laid on the stack.
+pub const P32: [usize; 8] = [16, 31, 17, 30, 18, 29, 19, 28];
 
-const ANGLES32: [i32; 16] = [
-    201,
-    4091,
-    3035,
-    2751,
-    1751,
-    3703,
-    3857,
-    1380,
-    995,
-    3973,
-    3513,
-    2106,
-    2440,
-    3290,
-    4052,
-    601,
-];
+pub const A32: [i32; 8] = [201, 4091, 3035, 2751, 1751, 3703, 3857, 1380];
 
-const JOINS32: [usize; 16] = [
+pub const P32A: [usize; 8] = [20, 27, 21, 26, 22, 25, 23, 24];
+
+pub const A32A: [i32; 8] = [995, 3973, 3513, 2106, 2440, 3290, 4052, 601];
+
+pub const J32A: [usize; 16] = [
     16,
     17,
     19,
@@ -253,11 +241,11 @@ const JOINS32: [usize; 16] = [
     30,
 ];
 
-const TURNS32A: [usize; 8] = [30, 17, 29, 18, 26, 21, 25, 22];
+pub const P32B: [usize; 8] = [30, 17, 29, 18, 26, 21, 25, 22];
 
-const ANGLES32A: [i32; 8] = [799, 4017, -4017, 799, 3406, 2276, -2276, 3406];
+pub const A32B: [i32; 8] = [799, 4017, -4017, 799, 3406, 2276, -2276, 3406];
 
-const JOINS32A: [usize; 16] = [
+pub const J32B: [usize; 16] = [
     16,
     19,
     17,
@@ -276,11 +264,11 @@ const JOINS32A: [usize; 16] = [
     29,
 ];
 
-const TURNS32B: [usize; 8] = [29, 18, 28, 19, 27, 20, 26, 21];
+pub const P32C: [usize; 8] = [29, 18, 28, 19, 27, 20, 26, 21];
 
-const ANGLES32B: [i32; 8] = [1567, 3784, 1567, 3784, -3784, 1567, -3784, 1567];
+pub const A32C: [i32; 8] = [1567, 3784, 1567, 3784, -3784, 1567, -3784, 1567];
 
-const JOINS32B: [usize; 16] = [
+pub const J32C: [usize; 16] = [
     16,
     23,
     17,
@@ -299,14 +287,13 @@ const JOINS32B: [usize; 16] = [
     27,
 ];
 
-const TURNS32C: [usize; 8] = [27, 20, 26, 21, 25, 22, 24, 23];
+pub const P32D: [usize; 8] = [27, 20, 26, 21, 25, 22, 24, 23];
 
-const ANGLES32C: [i32; 8] = [2896, 2896, 2896, 2896, 2896, 2896, 2896, 2896];
+pub const A32D: [i32; 8] = [2896, 2896, 2896, 2896, 2896, 2896, 2896, 2896];
 
-// The last butterflies in two runs of eight: a longer table would be laid on the stack.
-const OUTER32: [usize; 16] = [0, 31, 1, 30, 2, 29, 3, 28, 4, 27, 5, 26, 6, 25, 7, 24];
+pub const OUTER: [usize; 16] = [0, 31, 1, 30, 2, 29, 3, 28, 4, 27, 5, 26, 6, 25, 7, 24];
 
-const INNER32: [usize; 16] = [8, 23, 9, 22, 10, 21, 11, 20, 12, 19, 13, 18, 14, 17, 15, 16];
+pub const INNER: [usize; 16] = [8, 23, 9, 22, 10, 21, 11, 20, 12, 19, 13, 18, 14, 17, 15, 16];
 
 // inv_dct32_1d_internal_c.
 pub fn dct32(t: &mut [i32; 32], tx64: bool, min: i32, max: i32) -> bool
@@ -314,14 +301,15 @@ pub fn dct32(t: &mut [i32; 32], tx64: bool, min: i32, max: i32) -> bool
     ensures { λ r. ⌜ Stages.Through 4 min max (now (t .entry)) (now (t .exit)) r ⌝ }
 {
     let half = dct16(&mut *t, tx64, min, max);
-    first(&mut *t, tx64, &TURNS32, &ANGLES32, false);
-    let odd = joins(&mut *t, &JOINS32, min, max);
-    turns(&mut *t, &TURNS32A, &ANGLES32A, true);
-    let odd_a = joins(&mut *t, &JOINS32A, min, max);
-    turns(&mut *t, &TURNS32B, &ANGLES32B, true);
-    let odd_b = joins(&mut *t, &JOINS32B, min, max);
-    turns(&mut *t, &TURNS32C, &ANGLES32C, true);
-    let outer = joins(&mut *t, &OUTER32, min, max);
-    let inner = joins(&mut *t, &INNER32, min, max);
+    first(&mut *t, tx64, &P32, &A32, false);
+    first(&mut *t, tx64, &P32A, &A32A, false);
+    let odd = joins(&mut *t, &J32A, min, max);
+    turns(&mut *t, &P32B, &A32B, true);
+    let odd_a = joins(&mut *t, &J32B, min, max);
+    turns(&mut *t, &P32C, &A32C, true);
+    let odd_b = joins(&mut *t, &J32C, min, max);
+    turns(&mut *t, &P32D, &A32D, true);
+    let outer = joins(&mut *t, &OUTER, min, max);
+    let inner = joins(&mut *t, &INNER, min, max);
     half | odd | odd_a | odd_b | outer | inner
 }

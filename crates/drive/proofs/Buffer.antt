@@ -26,19 +26,17 @@ begin buffer at have h k = record { is = paste-zero buffer 0 (drop at buffer); c
 
 module _ {buffer₀ : List ℕ} {at have : ℕ} {buffer : List ℕ} {i : ℕ} (m : Moving buffer₀ at have buffer i) where
   pub same-length : length buffer ≡ length buffer₀
-  same-length = ap length (m .is) ∙ length-paste buffer₀ 0 (drop at buffer₀) i (omega (arith, m .count, m .inside)) (rw length-drop (omega (arith, m .count, m .inside)))
+  same-length = ap length (m .is) ∙ length-paste buffer₀ 0 (drop at buffer₀) i (omega (arith, m .count, m .inside))
+      (rw length-drop (omega (arith, m .count, m .inside)))
 
   -- the byte that is moved is still where it was
   unmoved : i + at < have → getD buffer (at + i) 0 ≡ getD (drop at buffer₀) i 0
   unmoved h =
       let front : length (take i (drop at buffer₀)) ≡ i = rw (length-take, length-drop) (omega (arith, m .inside)) in
       let place : at + i ≡ length (take i (drop at buffer₀)) + at = omega arith in
-      ap (λ (l : List ℕ). getD l (at + i) 0) (m .is)
-      ∙ ap (λ (j : ℕ). getD (paste buffer₀ 0 (drop at buffer₀) i) j 0) place
-      ∙ getD-append-add (take i (drop at buffer₀)) (drop (0 + i) buffer₀) at 0
-      ∙ getD-drop (0 + i) buffer₀ at 0
-      ∙ ap (λ (j : ℕ). getD buffer₀ j 0) (omega arith)
-      ∙ sym (getD-drop at buffer₀ i 0)
+      ap (λ (l : List ℕ). getD l (at + i) 0) (m .is) ∙ ap (λ (j : ℕ). getD (paste buffer₀ 0 (drop at buffer₀) i) j 0) place
+      ∙ getD-append-add (take i (drop at buffer₀)) (drop (0 + i) buffer₀) at 0 ∙ getD-drop (0 + i) buffer₀ at 0
+      ∙ ap (λ (j : ℕ). getD buffer₀ j 0) (omega arith) ∙ sym (getD-drop at buffer₀ i 0)
 
   pub one-more : i + at < have → Moving buffer₀ at have (set buffer i (getD buffer (at + i) 0)) (i + 1)
   one-more h = record {
@@ -51,10 +49,9 @@ module _ {buffer₀ : List ℕ} {at have : ℕ} {buffer : List ℕ} {i : ℕ} (m
 
   pub moved : have ≤ i + at → Moved buffer₀ buffer at have i
   moved h =
-      let all : i + at ≡ have = omega (arith, m .count) in
-      let end : at + i ≡ have = omega arith in
-      record {
-        bytes = (λ d. take (sym (zero-add i) d) (m .is d)) ∙ take-paste buffer₀ 0 (drop at buffer₀) i (omega arith) (rw length-drop (omega (arith, m .inside)))
+      let all : i + at ≡ have = omega (arith, m .count) in let end : at + i ≡ have = omega arith in record {
+        bytes = (λ d. take (sym (zero-add i) d) (m .is d))
+            ∙ take-paste buffer₀ 0 (drop at buffer₀) i (omega arith) (rw length-drop (omega (arith, m .inside)))
             ∙ sym (drop-take at i buffer₀) ∙ ap (λ (n : ℕ). drop at (take n buffer₀)) end;
         count = all;
       }

@@ -2,7 +2,7 @@
 // programs is here.
 ghost use Prim.Native.Nat.{_≤_, _<_};
 ghost use lib.ListN.{length};
-ghost use Rattle.jobs.specs.Answer.{taskOf};
+ghost use Rattle.jobs.specs.Jobs.{task-of};
 ghost use Rattle.jobs.specs.Output.{Next, Last};
 ghost use Rattle.drive.specs.Buffers.{Moved, FilledFrom};
 use jobs::step::Job;
@@ -29,14 +29,14 @@ fn write_both(output: &[u8], error: &[u8]) -> bool {
 
 // Hands on what comes next of what the job writes, when so many bytes were read, sent to standard output and said on standard error.
 fn hand_on(job: Job, read: u64, sent: u64, said: u64, output: &[u8], error: &[u8]) -> bool
-    requires { ⌜ Next (taskOf job) read sent said (now output) (now error) ⌝ }
+    requires { ⌜ Next (task-of job) read sent said (now output) (now error) ⌝ }
 {
     write_both(output, error)
 }
 
 // Hands on what comes last.
 fn finish(job: Job, is_last: bool, read: u64, sent: u64, said: u64, output: &[u8], error: &[u8])
-    requires { ⌜ Last (taskOf job) «is_last» read sent said (now output) (now error) ⌝ }
+    requires { ⌜ Last (task-of job) «is_last» read sent said (now output) (now error) ⌝ }
 {
     write_both(output, error);
 }

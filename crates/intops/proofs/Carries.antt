@@ -28,4 +28,5 @@ carried x p y q =
     let left = var 0 ⊛ (var 1 ⊝ var 4 ⊛ lit (pos 4096)) ⊕ var 2 ⊛ (var 3 ⊝ var 5 ⊛ lit (pos 4096)) ⊕ lit (pos 2048) in
     ring ρ (var 6 ⊕ var 0 ⊛ var 4 ⊕ var 2 ⊛ var 5) (var 6 ⊕ (var 0 ⊛ var 4 ⊕ var 2 ⊛ var 5)) (omega arith)
     ∙ sym (shr-add (x *ℤ reduced p +ℤ y *ℤ reduced q +ℤ pos 2048) (x *ℤ carry p +ℤ y *ℤ carry q) 4096 (lit≤ tt))
-    ∙ ap (λ (z : ℤ). shrZ z 4096) (ring ρ (left ⊕ (var 0 ⊛ var 4 ⊕ var 2 ⊛ var 5) ⊛ lit (pos 4096)) (var 0 ⊛ var 1 ⊕ var 2 ⊛ var 3 ⊕ lit (pos 2048)) (omega arith))
+    ∙ ap (λ (z : ℤ). shrZ z 4096)
+    (ring ρ (left ⊕ (var 0 ⊛ var 4 ⊕ var 2 ⊛ var 5) ⊛ lit (pos 4096)) (var 0 ⊛ var 1 ⊕ var 2 ⊛ var 3 ⊕ lit (pos 2048)) (omega arith))

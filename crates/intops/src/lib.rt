@@ -7,6 +7,12 @@ ghost use Rattle.whole.specs.Numbers as Numbers;
 ghost use Rattle.intops.specs.Asked as Asked;
 ghost use Rattle.intops.specs.Asked.{Dot, Slim, Single};
 
+// What a search finds.
+pub enum Found {
+    At(usize),
+    Nothing,
+}
+
 pub fn iclip(v: i32, min: i32, max: i32) -> i32
     ensures { λ r. ⌜ r ≡ clip v min max ⌝ }
 {

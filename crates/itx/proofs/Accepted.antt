@@ -15,12 +15,12 @@ use Rattle.whole.specs.Checks.{accept, refuse}
 use Rattle.whole.proofs.Checks.{refuse≢accept, same-accept}
 use Rattle.whole.proofs.Clips.{inside-abs}
 use Rattle.whole.proofs.Counts.{first-none}
-use Rattle.itx_1d.specs.declared.Kind.{Kind}
-use Rattle.itx_1d.specs.declared.Kind.the-variants.{Wht}
-use Rattle.itx_1d.specs.Manners.{is-wht, four-only}
-use Rattle.itx_1d.specs.Calls.{acceptance}
+use Rattle.levels.specs.declared.Kind.{Kind}
+use Rattle.levels.specs.declared.Kind.the-variants.{Wht}
+use Rattle.levels.specs.Manners.{is-wht, four-only}
+use Rattle.whole.specs.Answers.{acceptance}
 use Rattle.itx_1d.specs.Inner.{Lined}
-use Rattle.itx_1d.proofs.Manners.{wht-alone}
+use Rattle.levels.proofs.Manners.{wht-alone}
 use Rattle.bitdepth.specs.declared.Depth.{Depth}
 use Rattle.bitdepth.specs.Depths.{row-range}
 use Rattle.levels.specs.declared.Plan.{Plan}
@@ -37,7 +37,8 @@ use Rattle.residual.proofs.Ends.{row-reach, size}
 use Rattle.itx.specs.declared.Refusal.{Refusal}
 use Rattle.itx.specs.Calls.{Block, Call, plain, live, Outcome, Meets, verdict, outcome-of, short, live-rows, by-shortcut, by-passes}
 use Rattle.itx.specs.Demands.{Accepted}
-use Rattle.itx.specs.Answers.{number, place, added, left, Ready, Suits, Passed, Shortened}
+use Rattle.itx.specs.Answers.{number, place}
+use Rattle.itx.specs.Inner.{added, left, Ready, Suits, Passed, Shortened}
 use Rattle.itx.proofs.Sameness.{rows-all, sides, live-inside}
 use Rattle.itx.proofs.Verdicts.{accepting}
 
@@ -80,8 +81,11 @@ module _ (w h : ℕ) where
   of-type : (t : TxType) → T (fits t) → T (has (t .sizes) w h) → Fitting w h (t .rows, t .columns)
   of-type t e f =
       let a = and-yes (at-home (t .sizes) (t .rows) && at-home (t .sizes) (t .columns)) (not (is-wht (t .rows)) || is-wht (t .columns)) e in
-      let b = and-yes (at-home (t .sizes) (t .rows)) (at-home (t .sizes) (t .columns)) (a .0) in
-      record { along = lined (t .sizes) (t .rows) (b .0) f .0; down = lined (t .sizes) (t .columns) (b .1) f .1; both = with-wht (is-wht (t .rows)) (t .columns) (a .1) }
+      let b = and-yes (at-home (t .sizes) (t .rows)) (at-home (t .sizes) (t .columns)) (a .0) in record {
+        along = lined (t .sizes) (t .rows) (b .0) f .0;
+        down = lined (t .sizes) (t .columns) (b .1) f .1;
+        both = with-wht (is-wht (t .rows)) (t .columns) (a .1);
+      }
 
   pub fitting : (k : Kind × Kind) (type : ℕ) → kinds-of w h type ≡ accept k → Fitting w h k
   fitting k type =
@@ -99,10 +103,8 @@ shift-most w h s = go (among w h shift-0) (among w h shift-1) (among w h shift-2
 
 pub sized : (w h type : ℕ) (p : Plan) → plan w h type ≡ accept p → Sized p
 sized w h type p e =
-    let s = plan-sided w h type p e in
-    let k = plan-of w h type p e in
-    let f = fitting w h (p .rows, p .columns) type (k .kinds-are) in
-    record {
+    let s = plan-sided w h type p e in let k = plan-of w h type p e in
+    let f = fitting w h (p .rows, p .columns) type (k .kinds-are) in record {
       width = s .0;
       height = s .1;
       shift-small = shift-most w h (p .shift) (k .shift-is);
@@ -125,10 +127,14 @@ module _ (e : Engine) (call : Call) (b : Block) where
   abbrev c : List ℤ
   c = b .coefs
 
-  pub refusal-left : (r : Refusal) → verdict call b ≡ refuse (number r) (place r) → Meets (left e call b) (Rattle.itx_1d.specs.Calls.refusal (number r) (place r)) ps c
+  pub refusal-left : (r : Refusal) → verdict call b ≡ refuse (number r) (place r)
+      → Meets (left e call b) (Rattle.whole.specs.Answers.refusal (number r) (place r)) ps c
   refusal-left r f =
-      let o = ap (outcome-of (way-by e) call b) (sym f) in
-      record { answer-is = ap (λ (o : Outcome). o .answer) o; pixels-are = ap (λ (o : Outcome). o .pixels) o; coefs-are = ap (λ (o : Outcome). o .coefs) o }
+      let o = ap (outcome-of (way-by e) call b) (sym f) in record {
+        answer-is = ap (λ (o : Outcome). o .answer) o;
+        pixels-are = ap (λ (o : Outcome). o .pixels) o;
+        coefs-are = ap (λ (o : Outcome). o .coefs) o;
+      }
 
   module _ (p : Plan) (d : Depth) (a : Accepted call b p d) (s : Spot) (turned : s ≡ lies (b .plane)) where
     pub ready : Ready p s ps c
@@ -136,7 +142,10 @@ module _ (e : Engine) (call : Call) (b : Block) where
       sized = sized (b .w) (b .h) (b .type) p (a .planned);
       coefs = record {
         count = ltb-false (length c) (p .w * p .h) (a .enough);
-        small = λ i l. let m = row-reach d in inside-abs (at c i) (low (row-range d)) (high (row-range d)) (first-none (p .w * p .h) (λ i. outside (at c i) (low (row-range d)) (high (row-range d))) (a .ranged) i l) (omega (arith, size m, m .small)) (omega (arith, m .small));
+        small = λ i l. let m = row-reach d in
+            inside-abs (at c i) (low (row-range d)) (high (row-range d))
+            (first-none (p .w * p .h) (λ i. outside (at c i) (low (row-range d)) (high (row-range d))) (a .ranged) i l)
+            (omega (arith, size m, m .small)) (omega (arith, m .small));
       };
       columns-in = subst⁻¹ (λ (s : Spot). s .columns ≤ p .w) turned (columns-in (p .w) (p .h) (b .plane .view) (a .placed .seen) .1);
       rows-in = subst⁻¹ (λ (s : Spot). s .rows ≤ p .h) turned (rows-in (p .w) (p .h) (b .plane .view) (a .placed .seen) .1);
@@ -154,19 +163,19 @@ module _ (e : Engine) (call : Call) (b : Block) where
     suited (plain eob) r a u = rows-all b p d e r (sides b p d (plain eob) a .0) (u .0) (u .1)
     suited (live n) r a u = ap long u
 
-    pub passes-left : (r : ℕ) {mark : Bool} {ps′ : List ℕ} {c′ : List ℤ} → short call p ≡ false → Suits call p c r → Passed e p d s r ps c mark ps′ c′ → Meets (left e call b) (acceptance mark) ps′ c′
+    pub passes-left : (r : ℕ) {mark : Bool} {ps′ : List ℕ} {c′ : List ℤ} → short call p ≡ false → Suits call p c r
+        → Passed e p d s r ps c mark ps′ c′ → Meets (left e call b) (acceptance mark) ps′ c′
     passes-left r f u m =
-        let o = suited call r a u ∙ sym (taken false f) in
-        record {
+        let o = suited call r a u ∙ sym (taken false f) in record {
           answer-is = ap acceptance (m .mark-is) ∙ ap (λ (o : Outcome). o .answer) o;
           pixels-are = m .pixels-are ∙ ap (λ (s : Spot). added d s ps (residual (way-by e p d) c r)) turned ∙ ap (λ (o : Outcome). o .pixels) o;
           coefs-are = m .coefs-are ∙ ap (λ (o : Outcome). o .coefs) o;
         }
 
-    pub shortcut-left : {ps′ : List ℕ} {c′ : List ℤ} → short call p ≡ true → Shortened p d s ps c ps′ c′ → Meets (left e call b) (acceptance false) ps′ c′
+    pub shortcut-left : {ps′ : List ℕ} {c′ : List ℤ} → short call p ≡ true → Shortened p d s ps c ps′ c′
+        → Meets (left e call b) (acceptance false) ps′ c′
     shortcut-left f m =
-        let o = sym (taken true f) in
-        record {
+        let o = sym (taken true f) in record {
           answer-is = ap (λ (o : Outcome). o .answer) o;
           pixels-are = m .pixels-are ∙ ap (λ (s : Spot). added d s ps (λ y x. shortcut p (at c 0))) turned ∙ ap (λ (o : Outcome). o .pixels) o;
           coefs-are = m .coefs-are ∙ ap (λ (o : Outcome). o .coefs) o;

@@ -13,25 +13,26 @@ use Rattle.whole.specs.Checks.{Check, accept, refuse}
 use Rattle.whole.proofs.Clips.{or-false}
 use Rattle.whole.proofs.Counts.{tab-ext, any-none, none-of-any}
 use Rattle.whole.proofs.Ranges.{by-181}
-use Rattle.av1.specs.Sides.{side}
-use Rattle.itx_1d.specs.Calls.{acceptance}
+use Rattle.levels.specs.Sides.{side}
+use Rattle.whole.specs.Answers.{acceptance}
 use Rattle.itx_1d.specs.Passes.{av1-pass}
 use Rattle.itx_1d.proofs.PassLaws.{pass-av1}
 use Rattle.bitdepth.specs.declared.Depth.{Depth}
 use Rattle.bitdepth.specs.declared.Depth.the-variants.{Eight, Ten, Twelve}
-use Rattle.bitdepth.specs.Depths.{row-range, column-range, maximum}
+use Rattle.bitdepth.specs.Depths.{row-range, column-range, maximum, bit-depth}
 use Rattle.levels.specs.declared.Plan.{Plan}
 use native.Mathlib.Omega.{arith}
 use Rattle.strided.specs.Planes.{lies, begins}
 use Rattle.strided.proofs.Rows.{columns-in}
 use Rattle.pixels.specs.Adds.{add-pixel}
-use Rattle.itx.specs.Av1.{bit-depth, held, av1-way, av1-outcome}
+use Rattle.itx.specs.Av1.{held, av1-way, av1-outcome}
 use Rattle.itx.specs.Calls.{Block, Call, plain, Outcome, verdict, short, live-rows, by-shortcut, by-passes, outcome-of, outcome}
 use Rattle.itx.specs.Demands.{Accepted, Announced}
 use Rattle.pixels.proofs.Pixels.{rows-ext}
 use Rattle.itx.proofs.Demand3.{demand-3}
 use Rattle.itx.proofs.Verdicts.{accepted-by}
-use Rattle.residual.specs.Blocks.{entered, row, middle, column, residual, marked, prescale, if-wht, way}
+use Rattle.residual.specs.Blocks.{entered, row, middle, column, residual, marked, prescale, way}
+use Rattle.levels.specs.Manners.{if-wht}
 
 -- ---- number by number
 
@@ -56,20 +57,22 @@ module _ (p : Plan) (d : Depth) (c : List ℤ) (r : ℕ) (unmarked : marked (way
 
   row-same : (y : ℕ) → y < r → row (way p d) c y .values ≡ row (av1-way p d) c y .values
   row-same y l =
-      pass-av1 (side (p .w)) (row-range d) _ (p .rows) (none-of-any r _ (parts .0) y l)
-      ∙ ap (av1-pass (p .rows) (side (p .w))) (tab-ext (p .w) (entered (way p d) c y) (entered (av1-way p d) c y) (λ x k. enter-av1 p d (at c (y + x * p .h))))
+      pass-av1 (side (p .w)) (row-range d) _ (p .rows) (none-of-any r _ (parts .0) y l) ∙ ap (av1-pass (p .rows) (side (p .w)))
+      (tab-ext (p .w) (entered (way p d) c y) (entered (av1-way p d) c y) (λ x k. enter-av1 p d (at c (y + x * p .h))))
 
   middle-same : (y x : ℕ) → middle (way p d) c r y x ≡ middle (av1-way p d) c r y x
   middle-same y x = go (ltb y r) refl
     where
-      go : (t : Bool) → ltb y r ≡ t → cond t (way p d .between (at (row (way p d) c y .values) x)) (pos 0) ≡ cond t (av1-way p d .between (at (row (av1-way p d) c y .values) x)) (pos 0)
+      go : (t : Bool) → ltb y r ≡ t → cond t (way p d .between (at (row (way p d) c y .values) x)) (pos 0) ≡ cond t
+          (av1-way p d .between (at (row (av1-way p d) c y .values) x)) (pos 0)
       go true e = between-av1 p d _ ∙ ap (λ (s : List ℤ). av1-way p d .between (at s x)) (row-same y (ltb-true y r e))
       go false e = refl
 
   pub residual-av1 : (y x : ℕ) → x < p .w → residual (way p d) c r y x ≡ residual (av1-way p d) c r y x
   residual-av1 y x l =
       ap (λ (s : List ℤ). way p d .leave (at s y))
-      (pass-av1 (side (p .h)) (column-range d) _ (p .columns) (none-of-any (p .w) _ (parts .1) x l) ∙ ap (av1-pass (p .columns) (side (p .h))) (tab-ext (p .h) _ _ (λ y k. middle-same y x)))
+      (pass-av1 (side (p .h)) (column-range d) _ (p .columns) (none-of-any (p .w) _ (parts .1) x l)
+      ∙ ap (av1-pass (p .columns) (side (p .h))) (tab-ext (p .h) _ _ (λ y k. middle-same y x)))
 
 -- ---- the call
 
@@ -79,17 +82,16 @@ instead true s o o′ f e = refl
 instead false s o o′ f e = f e
 
 module _ (b : Block) where
-  passes-av1 : (call : Call) (p : Plan) (d : Depth) (r : ℕ) → Accepted call b p d → marked (way p d) (b .coefs) r ≡ false → by-passes b p d (way p d) r ≡ by-passes b p d (av1-way p d) r
+  passes-av1 : (call : Call) (p : Plan) (d : Depth) (r : ℕ) → Accepted call b p d → marked (way p d) (b .coefs) r ≡ false
+      → by-passes b p d (way p d) r ≡ by-passes b p d (av1-way p d) r
   passes-av1 call p d r good e =
-      let 𝓦 = av1-way p d in
-      let c = b .coefs in
-      let n = p .w * p .h in
-      let v = b .plane .view .columns in
+      let 𝓦 = av1-way p d in let c = b .coefs in let n = p .w * p .h in let v = b .plane .view .columns in
       let none = ap₂ (λ s t. s || t) (any-none r (λ y. row 𝓦 c y .mark) (λ y l. refl)) (any-none (p .w) (λ x. column 𝓦 c r x .mark) (λ x l. refl)) in
       λ i. record {
         answer = acceptance ((e ∙ sym none) i);
         pixels = rows-ext (maximum d) (b .plane .pixels) (begins (lies (b .plane))) (residual (way p d) c r) (residual 𝓦 c r) v (b .plane .view .rows)
-            (λ y x k l. ap (add-pixel (maximum d) _) (residual-av1 p d c r e y x (omega (arith, l, columns-in (p .w) (p .h) (b .plane .view) (good .placed .seen) .1)))) i;
+            (λ y x k l. ap (add-pixel (maximum d) _)
+            (residual-av1 p d c r e y x (omega (arith, l, columns-in (p .w) (p .h) (b .plane .view) (good .placed .seen) .1)))) i;
         coefs = replicate n (pos 0) ++ drop n c;
       }
 
@@ -105,6 +107,7 @@ module _ (b : Block) where
   unfolding outcome
   unmarked-av1 call = left (verdict call b) refl
     where
-      left : (v : Check (Plan × Depth)) → verdict call b ≡ v → outcome-of way call b v .answer .mark ≡ false → outcome-of way call b v ≡ outcome-of av1-way call b v
+      left : (v : Check (Plan × Depth)) → verdict call b ≡ v → outcome-of way call b v .answer .mark ≡ false
+          → outcome-of way call b v ≡ outcome-of av1-way call b v
       left (refuse n i) f e = refl
       left (accept (p, d)) f e = instead (short call p) (by-shortcut b p d) _ _ (passes-av1 call p d (live-rows call p) (accepted-by call b p d f)) e

@@ -13,7 +13,7 @@ use Rattle.strided.specs.declared.Width.{Width}
 use Rattle.itx.specs.declared.Verdict.{Verdict}
 use Rattle.itx.specs.declared.Verdict.the-variants.{Go, At, Stop}
 use Rattle.itx.specs.Calls.{Call, lengths-lines, with-depth}
-use Rattle.itx.specs.Answers.{verdict-of, Lies, Enough, RowsIn, Roomy}
+use Rattle.itx.specs.Inner.{verdict-of, Lies, Enough, RowsIn, Roomy}
 use Rattle.itx.proofs.Sameness.{rows-inside}
 use Rattle.itx.proofs.Verdicts.{planned-at}
 
@@ -26,7 +26,8 @@ granted known call count k size v t (At p d s) l e =
 granted known call count k size v t (Stop r) l e = (tt, tt)
 
 -- room that is enough for every plan is enough for this
-pub roomy : (k : Check Plan) (depth n : ℕ) (ls : List (Line (Plan × Depth))) (t : Spot) (x : Verdict) → Roomy k n → Lies t x → verdict-of x ≡ then (then k (with-depth depth)) (judged ls) → Enough n x
+pub roomy : (k : Check Plan) (depth n : ℕ) (ls : List (Line (Plan × Depth))) (t : Spot) (x : Verdict) → Roomy k n → Lies t x
+    → verdict-of x ≡ then (then k (with-depth depth)) (judged ls) → Enough n x
 roomy k depth n ls t (Go p d) m l e = absurd l
 roomy k depth n ls t (At p d s) m l e = m .room p (planned-at k depth p d (taken (then k (with-depth depth)) ls (p, d) (sym e) .0) .0)
 roomy k depth n ls t (Stop r) m l e = tt

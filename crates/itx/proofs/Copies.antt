@@ -14,7 +14,7 @@ use Rattle.residual.specs.declared.Engine.{Engine}
 use Rattle.residual.specs.Blocks.{way-by}
 use Rattle.residual.specs.Inner.{Coefs, ResolvedIn, wht-plan}
 use Rattle.itx.specs.Calls.{Call, plain, live}
-use Rattle.itx.specs.Answers.{Suits, Widened}
+use Rattle.itx.specs.Inner.{Suits, Widened}
 use Rattle.itx.proofs.Influence.{column-alike, marked-alike}
 
 module _ {p : Plan} {c t : List ℤ} (k : Widened p c t) where
@@ -24,7 +24,8 @@ module _ {p : Plan} {c t : List ℤ} (k : Widened p c t) where
   pub small-copy : Coefs p c → Coefs p t
   small-copy a = record { count = k .room; small = λ i l. subst (λ (z : ℤ). natAbs z ≤ 524288) (k .alike i l) (a .small i l) }
 
-  pub resolved-copy : {n : ℕ} {e : Engine} {d : Depth} {r : ℕ} {u : List ℤ} {mark : Bool} → r ≤ p .h → ResolvedIn n e p d t r u mark → ResolvedIn n e p d c r u mark
+  pub resolved-copy : {n : ℕ} {e : Engine} {d : Depth} {r : ℕ} {u : List ℤ} {mark : Bool} → r ≤ p .h
+      → ResolvedIn n e p d t r u mark → ResolvedIn n e p d c r u mark
   resolved-copy {e = e} {d = d} {r = r} l m =
       record {
         elements = λ y x a b. m .elements y x a b ∙ ap (λ (s : Passed). at (s .values) y) (column-alike (way-by e p d) t c back r x);
@@ -34,7 +35,8 @@ module _ {p : Plan} {c t : List ℤ} (k : Widened p c t) where
       }
 
   pub suits-copy : (call : Call) (r : ℕ) → Suits call p t r → Suits call p c r
-  suits-copy (plain eob) r u = (u .0, λ y x a b l. k .alike (y + x * p .h) (omega (arith, mul-le-mul-right {m = suc x} {n = p .w} (p .h) l)) ∙ u .1 y x a b l)
+  suits-copy (plain eob) r u =
+      (u .0, λ y x a b l. k .alike (y + x * p .h) (omega (arith, mul-le-mul-right {m = suc x} {n = p .w} (p .h) l)) ∙ u .1 y x a b l)
   suits-copy (live n) r u = u
 
 -- of WHT_WHT, whose shift no step takes

@@ -9,8 +9,8 @@ use lib.IntN.{pos}
 use Rattle.whole.specs.Lists.{at}
 use Rattle.whole.specs.Checks.{Check, accept, refuse, then, when, judged}
 use Rattle.whole.proofs.Checks.{same-accept, Alike, alike}
-use Rattle.itx_1d.specs.declared.Kind.{Kind}
-use Rattle.itx_1d.specs.declared.Kind.the-variants.{Dct}
+use Rattle.levels.specs.declared.Kind.{Kind}
+use Rattle.levels.specs.declared.Kind.the-variants.{Dct}
 use Rattle.bitdepth.specs.declared.Depth.{Depth}
 use Rattle.levels.specs.declared.Plan.{Plan}
 use Rattle.levels.specs.Plans.{kinds-of, plan}
@@ -54,8 +54,7 @@ module _ (b : Block) (r : ℕ) (from : 1 ≤ r) (to : r ≤ b .h) (covers : Cove
   same-lines p d e =
       let k = plan-of (b .w) (b .h) (b .type) p e in
       let high = side-bounds (p .h) (plan-sided (b .w) (b .h) (b .type) p e .1) .0 in
-      let inside : r ≤ p .h = omega (arith, k .h-is) in
-      let covers′ : Covers (p .w) (p .h) (b .coefs) r =
+      let inside : r ≤ p .h = omega (arith, k .h-is) in let covers′ : Covers (p .w) (p .h) (b .coefs) r =
       (λ y x g u v. ap (λ (n : ℕ). at (b .coefs) (y + x * n)) (k .h-is) ∙ covers y x g (omega (arith, k .h-is)) (omega (arith, k .w-is))) in
       let rows : when (bad-rows (live r) (p .h)) ≡ none = (λ i. when (not (le-leb 1 r from i && le-leb r (p .h) inside i))) in
       let strays = strays-none (p .w) (p .h) (omega arith) (b .coefs) r covers′ in

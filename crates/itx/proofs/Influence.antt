@@ -1,5 +1,5 @@
--- Coefficients past w·h and pixels that are not visible influence nothing: a call on other ones answers the same, and leaves the same visible pixels and
--- the same w·h coefficients.
+-- Coefficients past w·h and pixels that are not visible influence nothing: a call on other ones answers the same, and leaves the same
+-- visible pixels and the same w·h coefficients.
 use mathlib.Core.Path.{_≡_, refl, sym, ap, ap₂, _∙_, subst, subst⁻¹}
 use mathlib.Core.Bool.{Bool, true, false, cond, _&&_, _||_}
 use mathlib.Core.List.{List, [], _∷_, _++_}
@@ -15,7 +15,7 @@ use Rattle.whole.specs.Lists.{at}
 use Rattle.whole.specs.Checks.{Check, accept, refuse, then, when, judged}
 use Rattle.whole.proofs.Checks as Checks
 use Rattle.whole.proofs.Counts.{tab-ext, any-ext, first-ext}
-use Rattle.itx_1d.specs.Calls.{acceptance, refusal}
+use Rattle.whole.specs.Answers.{acceptance, refusal}
 use Rattle.itx_1d.specs.Passes.{Passed}
 use Rattle.bitdepth.specs.declared.Depth.{Depth}
 use Rattle.bitdepth.specs.Depths.{depth, row-range, maximum}
@@ -28,8 +28,8 @@ use Rattle.coefs.specs.Coefs.{nonzero}
 use Rattle.pixels.specs.Adds.{add-pixel}
 use Rattle.pixels.proofs.Above.{above-alike}
 use Rattle.itx.specs.Calls.{Block, Call, plain, live, stray, table, checked, verdict, short, live-rows, outcome-of, outcome}
-use Rattle.itx.specs.Demands.{Accepted}
-use Rattle.itx.proofs.Outcomes.{added, answer-is, coefs-are, pixel-rule}
+use Rattle.itx.specs.Demands.{Accepted, addend, other}
+use Rattle.itx.proofs.Outcomes.{answer-is, coefs-are, pixel-rule}
 use Rattle.itx.proofs.Sameness.{live-inside, area-positive}
 use Rattle.itx.proofs.Verdicts.{accepting, accepted-by}
 
@@ -38,20 +38,19 @@ use Rattle.itx.proofs.Verdicts.{accepting, accepted-by}
 module _ (𝓦 : Way) (c c′ : List ℤ) (alike : (i : ℕ) → i < 𝓦 .w * 𝓦 .h → at c i ≡ at c′ i) where
   row-alike : (y : ℕ) → y < 𝓦 .h → row 𝓦 c y ≡ row 𝓦 c′ y
   row-alike y l =
-      ap (𝓦 .row)
-      (tab-ext (𝓦 .w) (entered 𝓦 c y) (entered 𝓦 c′ y) (λ x g. ap (𝓦 .enter) (alike (y + x * 𝓦 .h) (omega (arith, mul-le-mul-right {m = suc x} {n = 𝓦 .w} (𝓦 .h) g)))))
+      ap (𝓦 .row) (tab-ext (𝓦 .w) (entered 𝓦 c y) (entered 𝓦 c′ y)
+      (λ x g. ap (𝓦 .enter) (alike (y + x * 𝓦 .h) (omega (arith, mul-le-mul-right {m = suc x} {n = 𝓦 .w} (𝓦 .h) g)))))
 
   pub column-alike : (r x : ℕ) → column 𝓦 c r x ≡ column 𝓦 c′ r x
   column-alike r x =
-      ap (𝓦 .column)
-      (tab-ext (𝓦 .h) (λ y. middle 𝓦 c r y x) (λ y. middle 𝓦 c′ r y x) (λ y l. ap (λ (s : Passed). cond (ltb y r) (𝓦 .between (at (s .values) x)) (pos 0)) (row-alike y l)))
+      ap (𝓦 .column) (tab-ext (𝓦 .h) (λ y. middle 𝓦 c r y x) (λ y. middle 𝓦 c′ r y x)
+      (λ y l. ap (λ (s : Passed). cond (ltb y r) (𝓦 .between (at (s .values) x)) (pos 0)) (row-alike y l)))
 
   residual-alike : (r y x : ℕ) → residual 𝓦 c r y x ≡ residual 𝓦 c′ r y x
   residual-alike r y x = ap (λ (s : Passed). 𝓦 .leave (at (s .values) y)) (column-alike r x)
 
   pub marked-alike : (r : ℕ) → r ≤ 𝓦 .h → marked 𝓦 c r ≡ marked 𝓦 c′ r
-  marked-alike r m = ap₂ (λ a b. a || b)
-      (any-ext r _ _ (λ y l. ap (λ (s : Passed). s .mark) (row-alike y (omega arith))))
+  marked-alike r m = ap₂ (λ a b. a || b) (any-ext r _ _ (λ y l. ap (λ (s : Passed). s .mark) (row-alike y (omega arith))))
       (any-ext (𝓦 .w) _ _ (λ x l. ap (λ (s : Passed). s .mark) (column-alike r x)))
 
 -- ---- the calls
@@ -75,25 +74,29 @@ front-zero zero c i l = let f : ⊥ = omega arith in absurd f
 front-zero (suc n) c zero l = refl
 front-zero (suc n) c (suc i) l = front-zero n c i (omega arith)
 
--- the block with other coefficients and pixels
-abbrev pub other : Block → List ℤ → List ℕ → Block
-other b c ps = record { w = b .w; h = b .h; type = b .type; depth = b .depth; coefs = c; plane = record { pixels = ps; width = b .plane .width; view = b .plane .view } }
-
 module _ (call : Call) (b : Block) (c : List ℤ) (ps : List ℕ) (alike : (i : ℕ) → i < b .w * b .h → at (b .coefs) i ≡ at c i)
     (as-enough : ltb (length (b .coefs)) (b .w * b .h) ≡ ltb (length c) (b .w * b .h)) (as-many : length (b .plane .pixels) ≡ length ps)
-    (as-visible : (y x : ℕ) → y < b .plane .view .rows → x < b .plane .view .columns → getD (b .plane .pixels) (place (b .plane) y x) 0 ≡ getD ps (place (b .plane) y x) 0) where
+    (as-visible : (y x : ℕ) → y < b .plane .view .rows → x < b .plane .view .columns
+    → getD (b .plane .pixels) (place (b .plane) y x) 0 ≡ getD ps (place (b .plane) y x) 0) where
   -- the checks look at nothing else
   same-checks : (p : Plan) (d : Depth) → p .w ≡ b .w → p .h ≡ b .h → judged (table call b) (p, d) ≡ judged (table call (other b c ps)) (p, d)
   same-checks p d e f =
-      let m = row-range d in
-      let area : p .w * p .h ≡ b .w * b .h = ap₂ (λ (u v : ℕ). u * v) e f in
+      let m = row-range d in let area : p .w * p .h ≡ b .w * b .h = ap₂ (λ (u v : ℕ). u * v) e f in
       let same : (i : ℕ) → i < p .w * p .h → at (b .coefs) i ≡ at c i = λ i l. alike i (subst (λ (k : ℕ). i < k) area l) in
       let enough = ap when (subst⁻¹ (λ (k : ℕ). ltb (length (b .coefs)) k ≡ ltb (length c) k) area as-enough) in
       let inside = ap (λ (n : ℕ). when (spot-outside n (lies (b .plane)))) as-many in
       let ranged = first-ext (p .w * p .h) _ _ (λ i l. ap (λ (z : ℤ). outside z (low m) (high m)) (same i l)) in
       let covered = stray-alike call p (b .coefs) c same in
       let sound = above-alike (maximum d) (b .plane .pixels) ps (lies (b .plane)) (p .w) as-visible in
-      Checks.alike (table call b) (table call (other b c ps)) (p, d) (refl, refl, (refl, refl, (refl, enough, (refl, refl, (refl, refl, (refl, inside, (refl, ranged, (refl, covered, (refl, sound, tt)))))))))
+      Checks.alike (table call b) (table call (other b c ps)) (p, d) (
+        refl,
+        refl,
+        (
+          refl,
+          refl,
+          (refl, enough, (refl, refl, (refl, refl, (refl, inside, (refl, ranged, (refl, covered, (refl, sound, tt))))))),
+        ),
+      )
 
   pub same-verdict : verdict call b ≡ verdict call (other b c ps)
   same-verdict = sized (plan (b .w) (b .h) (b .type)) refl
@@ -113,28 +116,32 @@ module _ (call : Call) (b : Block) (c : List ℤ) (ps : List ℕ) (alike : (i : 
     accepted-too = accepted-by call (other b c ps) p d (sym same-verdict ∙ accepting call b p d good)
 
     same : (i : ℕ) → i < p .w * p .h → at (b .coefs) i ≡ at c i
-    same i l = let k = plan-of (b .w) (b .h) (b .type) p (good .planned) in alike i (subst (λ (n : ℕ). i < n) (ap₂ (λ (u v : ℕ). u * v) (k .w-is) (k .h-is)) l)
+    same i l = let k = plan-of (b .w) (b .h) (b .type) p (good .planned) in
+        alike i (subst (λ (n : ℕ). i < n) (ap₂ (λ (u v : ℕ). u * v) (k .w-is) (k .h-is)) l)
 
     accepted-alike : outcome call b .answer ≡ outcome call (other b c ps) .answer
     accepted-alike =
-        answer-is call b p d good
-        ∙ ap (λ (t : Bool). acceptance (cond (short call p) false t)) (marked-alike (way p d) (b .coefs) c same (live-rows call p) (live-inside call b p d good))
+        answer-is call b p d good ∙ ap (λ (t : Bool). acceptance (cond (short call p) false t))
+        (marked-alike (way p d) (b .coefs) c same (live-rows call p) (live-inside call b p d good))
         ∙ sym (answer-is call (other b c ps) p d accepted-too)
 
-    added-alike : (y x : ℕ) → added call b p d y x ≡ added call (other b c ps) p d y x
+    added-alike : (y x : ℕ) → addend call b p d y x ≡ addend call (other b c ps) p d y x
     added-alike y x =
-        ap₂ (λ (s l : ℤ). cond (short call p) s l) (ap (shortcut p) (same 0 (area-positive b p d call good))) (residual-alike (way p d) (b .coefs) c same (live-rows call p) y x)
+        ap₂ (λ (s l : ℤ). cond (short call p) s l) (ap (shortcut p) (same 0 (area-positive b p d call good)))
+        (residual-alike (way p d) (b .coefs) c same (live-rows call p) y x)
 
     -- a visible pixel is the same afterwards
     pub same-pixel : (y x : ℕ) → y < b .plane .view .rows → x < b .plane .view .columns
         → getD (outcome call b .pixels) (place (b .plane) y x) 0 ≡ getD (outcome call (other b c ps) .pixels) (place (b .plane) y x) 0
     same-pixel y x l g =
-        pixel-rule call b p d good y x l g ∙ (λ i. add-pixel (maximum d) (as-visible y x l g i) (added-alike y x i)) ∙ sym (pixel-rule call (other b c ps) p d accepted-too y x l g)
+        pixel-rule call b p d good y x l g ∙ (λ i. add-pixel (maximum d) (as-visible y x l g i) (added-alike y x i))
+        ∙ sym (pixel-rule call (other b c ps) p d accepted-too y x l g)
 
     -- and so is a coefficient of the block
     pub same-coefficient : (i : ℕ) → i < p .w * p .h → at (outcome call b .coefs) i ≡ at (outcome call (other b c ps) .coefs) i
     same-coefficient i l =
-        ap (λ (t : List ℤ). at t i) (coefs-are call b p d good) ∙ go (short call p) ∙ sym (ap (λ (t : List ℤ). at t i) (coefs-are call (other b c ps) p d accepted-too))
+        ap (λ (t : List ℤ). at t i) (coefs-are call b p d good) ∙ go (short call p)
+        ∙ sym (ap (λ (t : List ℤ). at t i) (coefs-are call (other b c ps) p d accepted-too))
       where
         some : (k : List ℤ) → ltb (length k) (p .w * p .h) ≡ false → 0 < length k
         some k e = omega (arith, ltb-false (length k) (p .w * p .h) e, area-positive b p d call good)

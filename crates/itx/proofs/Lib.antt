@@ -3,6 +3,7 @@ pub mod Verdicts
 pub mod Numbers
 pub mod LiveRows
 pub mod Sameness
+pub mod Table
 pub mod Outcomes
 pub mod Shortcut
 pub mod Demand3

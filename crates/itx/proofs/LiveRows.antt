@@ -14,10 +14,10 @@ use Rattle.whole.specs.Lists.{at}
 use Rattle.whole.proofs.Clips.{clip-inside}
 use Rattle.whole.proofs.Counts.{tab-ext, any-ext, any-upto}
 use Rattle.whole.proofs.Ranges.{zero-inside}
-use Rattle.av1.specs.Sides.{Side, side, len}
-use Rattle.itx_1d.specs.declared.Kind.{Kind}
+use Rattle.levels.specs.Sides.{Side, side, len}
+use Rattle.levels.specs.declared.Kind.{Kind}
 use Rattle.itx_1d.specs.Passes.{Passed}
-use Rattle.itx_1d.proofs.Manners.{split}
+use Rattle.levels.proofs.Manners.{split}
 use Rattle.itx_1d.proofs.PassLaws.{zeros, zero-pass, zero-unmarked, pass-av1}
 use Rattle.bitdepth.specs.declared.Depth.{Depth}
 use Rattle.bitdepth.specs.Depths.{row-range, column-range}
@@ -26,7 +26,8 @@ use Rattle.levels.proofs.Sizes.{Sided}
 use Rattle.coefs.specs.Coefs.{Covers}
 use Rattle.residual.specs.declared.Engine.{Engine}
 use Rattle.residual.specs.declared.Engine.the-variants.{First, Spec}
-use Rattle.residual.specs.Blocks.{Way, entered, row, middle, column, residual, marked, prescale, if-wht, passed-by, way-by}
+use Rattle.residual.specs.Blocks.{Way, entered, row, middle, column, residual, marked, prescale, passed-by, way-by}
+use Rattle.levels.specs.Manners.{if-wht}
 
 -- zero stays zero, up to the column pass
 pub record Quiet (𝓦 : Way) : Type 0 where
@@ -106,7 +107,9 @@ quiet e p d s = record {
 
     row-zero : (e : Engine) (x : ℕ) → at (passed-by e (p .rows) n (row-range d) (zeros (len n)) .values) x ≡ pos 0
     row-zero First x = zero-pass n (row-range d) (p .rows) x
-    row-zero Spec x = ap (λ (l : List ℤ). at l x) (sym (pass-av1 n (row-range d) (zeros (len n)) (p .rows) (zero-unmarked n (row-range d) (p .rows)))) ∙ zero-pass n (row-range d) (p .rows) x
+    row-zero Spec x = ap (λ (l : List ℤ). at l x)
+        (sym (pass-av1 n (row-range d) (zeros (len n)) (p .rows) (zero-unmarked n (row-range d) (p .rows))))
+        ∙ zero-pass n (row-range d) (p .rows) x
 
     row-unmarked : (e : Engine) → passed-by e (p .rows) n (row-range d) (zeros (len n)) .mark ≡ false
     row-unmarked First = zero-unmarked n (row-range d) (p .rows)

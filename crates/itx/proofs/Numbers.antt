@@ -19,7 +19,8 @@ use Rattle.levels.specs.Plans.{among, shift-0, shift-1, shift-2, shift-of, kind
 use Rattle.levels.proofs.Types.{by-types}
 use Rattle.strided.specs.Planes.{lies}
 use Rattle.residual.specs.Blocks.{Way, way}
-use Rattle.itx.specs.Calls.{Block, Call, plain, lengths-lines, range-line, stray-line, pixel-line, with-depth, table, verdict, short, live-rows, by-shortcut, by-passes, outcome-of, outcome}
+use Rattle.itx.specs.Calls.{Block, Call, plain, lengths-lines, range-line, stray-line, pixel-line, with-depth, table, verdict, short}
+use Rattle.itx.specs.Calls.{live-rows, by-shortcut, by-passes, outcome-of, outcome}
 
 -- ---- the number of a check
 
@@ -52,11 +53,7 @@ abbrev pub all-by : {A : Type 0} → (ℕ → Bool) → List (Line A) → Bool
 all-by ok [] = true
 all-by ok (l ∷ ls) = ok (l .0) && all-by ok ls
 
--- the tests: it is one of these; it is another than n
-abbrev pub has : List ℕ → ℕ → Bool
-has [] n = false
-has (m ∷ ms) n = eqb n m || has ms n
-
+-- a test: it is another than n
 abbrev pub another : ℕ → ℕ → Bool
 another n m = not (eqb m n)
 

@@ -20,15 +20,17 @@ use Rattle.strided.specs.declared.Spot.{Spot}
 use Rattle.itx.specs.declared.Refusal.{Refusal}
 use Rattle.itx.specs.declared.Verdict.{Verdict}
 use Rattle.itx.specs.declared.Verdict.the-variants.{Go, At, Stop}
-use Rattle.itx.specs.Answers.{verdict-of, Asked, Placed, Enough, Handed}
+use Rattle.itx.specs.Inner.{verdict-of, Asked, Placed, Enough, Handed}
 use Rattle.itx.proofs.Verdict.{the-type}
 
 -- the next check decides
-pub opened : (v : Verdict) {p : Plan} {d : Depth} (f : Plan × Depth → Check (Plan × Depth)) → verdict-of v ≡ accept (p, d) → f (p, d) ≡ then (verdict-of v) f
+pub opened : (v : Verdict) {p : Plan} {d : Depth} (f : Plan × Depth → Check (Plan × Depth)) → verdict-of v ≡ accept (p, d)
+    → f (p, d) ≡ then (verdict-of v) f
 opened v f e = ap (λ k. then k f) (sym e)
 
 -- a line of the table decides by what it finds: it refuses, or hands on what it was given
-pub decides : (v : Verdict) {p : Plan} {d : Depth} {o : Option ℕ} (l : Line (Plan × Depth)) → verdict-of v ≡ accept (p, d) → o ≡ l .1 (p, d) → unless-at o (l .0) (accept (p, d)) ≡ then (verdict-of v) (judged (l ∷ []))
+pub decides : (v : Verdict) {p : Plan} {d : Depth} {o : Option ℕ} (l : Line (Plan × Depth)) → verdict-of v ≡ accept (p, d)
+    → o ≡ l .1 (p, d) → unless-at o (l .0) (accept (p, d)) ≡ then (verdict-of v) (judged (l ∷ []))
 decides v {p = p} {d = d} l e q = (λ i. unless-at (q i) (l .0) (accept (p, d))) ∙ opened v (judged (l ∷ [])) e
 
 -- the code's test of a sign
@@ -40,13 +42,16 @@ negative z f e = below z ∙ ap (λ (y : ℤ). ltZ y (pos 0)) (sym (toZ-ofZ w32 
     below (negsuc n) = refl
 
 -- a check that was told to stop hands that on
-pub stopped : (v : Verdict) (f : Plan × Depth → Check (Plan × Depth)) (F : Verdict → Type 0) → ((r : Refusal) → F (Stop r)) → OneOf (1 ∷ 2 ∷ []) (tagOf the-type v) → Asked v → (verdict-of v ≡ then (verdict-of v) f) × F v
+pub stopped : (v : Verdict) (f : Plan × Depth → Check (Plan × Depth)) (F : Verdict → Type 0) → ((r : Refusal) → F (Stop r))
+    → OneOf (1 ∷ 2 ∷ []) (tagOf the-type v) → Asked v → (verdict-of v ≡ then (verdict-of v) f) × F v
 stopped (Go p d) f F g h a = absurd (miss (1 ∷ 2 ∷ []) 0 tt h)
 stopped (At p d s) f F g h a = absurd a
 stopped (Stop r) f F g h a = (refl, g r)
 
 -- of a search: what it was handed knows a place, or was told to stop
-pub halted : (v : Verdict) (f : Plan × Depth → Check (Plan × Depth)) (F : Verdict → Type 0) → ((p : Plan) (d : Depth) → F (Go p d) → ⊥) → OneOf (0 ∷ 2 ∷ []) (tagOf the-type v) → F v → (verdict-of v ≡ then (verdict-of v) f) × Handed v v
+pub halted : (v : Verdict) (f : Plan × Depth → Check (Plan × Depth)) (F : Verdict → Type 0)
+    → ((p : Plan) (d : Depth) → F (Go p d) → ⊥) → OneOf (0 ∷ 2 ∷ []) (tagOf the-type v) → F v
+    → (verdict-of v ≡ then (verdict-of v) f) × Handed v v
 halted (Go p d) f F g h a = absurd (g p d a)
 halted (At p d s) f F g h a = absurd (miss (0 ∷ 2 ∷ []) 1 tt h)
 halted (Stop r) f F g h a = (refl, tt)

@@ -14,7 +14,7 @@ use lib.Seq.{getD-set-other}
 use Rattle.whole.specs.Lists.{at}
 use Rattle.whole.specs.Checks.{Check, accept, refuse}
 use Rattle.whole.proofs.Clips.{clip-abs}
-use Rattle.itx_1d.specs.Calls.{Answer, acceptance}
+use Rattle.whole.specs.Answers.{Answer, acceptance}
 use Rattle.bitdepth.specs.declared.Depth.{Depth}
 use Rattle.bitdepth.specs.declared.Depth.the-variants.{Eight, Ten, Twelve}
 use Rattle.bitdepth.specs.Depths.{maximum}
@@ -25,17 +25,13 @@ use Rattle.strided.proofs.Rows.{row-fits, rows-apart}
 use Rattle.residual.specs.Blocks.{residual, marked, way, shortcut}
 use Rattle.pixels.specs.Adds.{add-pixel, add-row, add-rows}
 use Rattle.itx.specs.Calls.{Block, Call, verdict, Outcome, short, live-rows, painted, by-shortcut, by-passes, outcome-of, outcome, Meets}
-use Rattle.itx.specs.Demands.{Accepted}
+use Rattle.itx.specs.Demands.{Accepted, addend}
 use Rattle.pixels.proofs.Pixels.{rows-length, pixel-kept, pixel-set}
 use Rattle.itx.proofs.Numbers.{answered}
 use Rattle.itx.proofs.Verdicts.{accepted-by}
 use Rattle.itx.proofs.Sameness.{opened, area-positive}
 
 -- ---- an accepted call
-
--- what is added to the pixel of row y, column x
-abbrev pub added : Call → Block → Plan → Depth → ℕ → ℕ → ℤ
-added call b p d y x = cond (short call p) (shortcut p (at (b .coefs) 0)) (residual (way p d) (b .coefs) (live-rows call p) y x)
 
 -- behind the first n numbers, which become 0, nothing changes
 later-kept : (n : ℕ) (c : List ℤ) (i : ℕ) → n ≤ i → n ≤ length c → at (replicate n (pos 0) ++ drop n c) i ≡ at c i
@@ -46,7 +42,8 @@ later-kept (suc n) (x ∷ c) (suc i) l k = later-kept n c i (omega arith) (omega
 
 module _ (call : Call) (b : Block) (p : Plan) (d : Depth) (a : Accepted call b p d) where
   -- by the short or the long way
-  either : {A : Type 0} (f : Outcome → A) (g : Bool → A) → f (by-shortcut b p d) ≡ g true → f (by-passes b p d (way p d) (live-rows call p)) ≡ g false → f (outcome call b) ≡ g (short call p)
+  either : {A : Type 0} (f : Outcome → A) (g : Bool → A) → f (by-shortcut b p d) ≡ g true
+      → f (by-passes b p d (way p d) (live-rows call p)) ≡ g false → f (outcome call b) ≡ g (short call p)
   either f g s l = ap f (opened b p d call a) ∙ go (short call p)
     where
       go : (t : Bool) → f (cond t (by-shortcut b p d) (by-passes b p d (way p d) (live-rows call p))) ≡ g t
@@ -56,13 +53,15 @@ module _ (call : Call) (b : Block) (p : Plan) (d : Depth) (a : Accepted call b p
   pub answer-is : outcome call b .answer ≡ acceptance (cond (short call p) false (marked (way p d) (b .coefs) (live-rows call p)))
   answer-is = either (λ (o : Outcome). o .answer) (λ (t : Bool). acceptance (cond t false (marked (way p d) (b .coefs) (live-rows call p)))) refl refl
 
-  pub coefs-are : outcome call b .coefs ≡ cond (short call p) (set (b .coefs) 0 (pos 0)) (let n = p .w * p .h in replicate n (pos 0) ++ drop n (b .coefs))
-  coefs-are = either (λ (o : Outcome). o .coefs) (λ (t : Bool). cond t (set (b .coefs) 0 (pos 0)) (let n = p .w * p .h in replicate n (pos 0) ++ drop n (b .coefs))) refl refl
+  pub coefs-are : outcome call b .coefs ≡ cond (short call p) (set (b .coefs) 0 (pos 0))
+      (let n = p .w * p .h in replicate n (pos 0) ++ drop n (b .coefs))
+  coefs-are = either (λ (o : Outcome). o .coefs)
+      (λ (t : Bool). cond t (set (b .coefs) 0 (pos 0)) (let n = p .w * p .h in replicate n (pos 0) ++ drop n (b .coefs))) refl refl
 
-  pub pixels-are : outcome call b .pixels ≡ painted (maximum d) (b .plane) (added call b p d)
+  pub pixels-are : outcome call b .pixels ≡ painted (maximum d) (b .plane) (addend call b p d)
   pixels-are =
-      either (λ (o : Outcome). o .pixels)
-      (λ (t : Bool). painted (maximum d) (b .plane) (λ y x. cond t (shortcut p (at (b .coefs) 0)) (residual (way p d) (b .coefs) (live-rows call p) y x))) refl refl
+      either (λ (o : Outcome). o .pixels) (λ (t : Bool). painted (maximum d) (b .plane)
+      (λ y x. cond t (shortcut p (at (b .coefs) 0)) (residual (way p d) (b .coefs) (live-rows call p) y x))) refl refl
 
   abbrev v : View
   v = b .plane .view
@@ -72,14 +71,19 @@ module _ (call : Call) (b : Block) (p : Plan) (d : Depth) (a : Accepted call b p
 
   -- the pixel rule, of every visible pixel
   pub pixel-rule : (y x : ℕ) → y < v .rows → x < v .columns
-      → getD (outcome call b .pixels) (place (b .plane) y x) 0 ≡ add-pixel (maximum d) (getD (b .plane .pixels) (place (b .plane) y x) 0) (added call b p d y x)
+      → getD (outcome call b .pixels) (place (b .plane) y x) 0 ≡ add-pixel (maximum d)
+      (getD (b .plane .pixels) (place (b .plane) y x) 0) (addend call b p d y x)
   pixel-rule y x l g =
       ap (λ (ps : List ℕ). getD ps (place (b .plane) y x) 0) pixels-are
-      ∙ pixel-set (maximum d) (b .plane .pixels) (begins (lies (b .plane))) (v .columns) (v .rows) (row-fits (b .plane .width) size (p .w) (p .h) v (a .placed)) (rows-apart (b .plane .width) size (p .w) (p .h) v (a .placed)) (added call b p d) (v .rows) y x (le-refl _) l g
+      ∙ pixel-set (maximum d) (b .plane .pixels) (begins (lies (b .plane))) (v .columns) (v .rows)
+      (row-fits (b .plane .width) size (p .w) (p .h) v (a .placed))
+      (rows-apart (b .plane .width) size (p .w) (p .h) v (a .placed)) (addend call b p d) (v .rows) y x (le-refl _) l g
 
   -- every other pixel stays
-  pub pixel-stays : (i : ℕ) → ((y x : ℕ) → y < v .rows → x < v .columns → i ≢ place (b .plane) y x) → getD (outcome call b .pixels) i 0 ≡ getD (b .plane .pixels) i 0
-  pixel-stays i f = ap (λ (ps : List ℕ). getD ps i 0) pixels-are ∙ pixel-kept (maximum d) (b .plane .pixels) (begins (lies (b .plane))) (added call b p d) (v .columns) (v .rows) i f
+  pub pixel-stays : (i : ℕ) → ((y x : ℕ) → y < v .rows → x < v .columns → i ≢ place (b .plane) y x)
+      → getD (outcome call b .pixels) i 0 ≡ getD (b .plane .pixels) i 0
+  pixel-stays i f = ap (λ (ps : List ℕ). getD ps i 0) pixels-are
+      ∙ pixel-kept (maximum d) (b .plane .pixels) (begins (lies (b .plane))) (addend call b p d) (v .columns) (v .rows) i f
 
   -- a coefficient past w·h stays
   pub coefficient-stays : (i : ℕ) → p .w * p .h ≤ i → at (outcome call b .coefs) i ≡ at (b .coefs) i
@@ -186,7 +190,8 @@ module _ (call : Call) (b : Block) where
 
 -- ---- one outcome
 
-pub one-outcome : {o : Outcome} {a a′ : Answer} {ps ps′ : List ℕ} {cs cs′ : List ℤ} → Meets o a ps cs → Meets o a′ ps′ cs′ → (a ≡ a′) × (ps ≡ ps′) × (cs ≡ cs′)
+pub one-outcome : {o : Outcome} {a a′ : Answer} {ps ps′ : List ℕ} {cs cs′ : List ℤ} → Meets o a ps cs → Meets o a′ ps′ cs′
+    → (a ≡ a′) × (ps ≡ ps′) × (cs ≡ cs′)
 one-outcome m n = (m .answer-is ∙ sym (n .answer-is), m .pixels-are ∙ sym (n .pixels-are), m .coefs-are ∙ sym (n .coefs-are))
 
 pub met : {o o′ : Outcome} {a : Answer} {ps : List ℕ} {cs : List ℤ} → o ≡ o′ → Meets o a ps cs → Meets o′ a ps cs

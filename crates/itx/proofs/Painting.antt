@@ -10,9 +10,9 @@ use lib.ListN.{length, replicate, drop}
 use Rattle.whole.specs.Lists.{at}
 use Rattle.levels.specs.declared.Plan.{Plan}
 use Rattle.levels.proofs.Sizes.{side-bounds}
-use Rattle.itx_1d.specs.declared.Kind.{Kind}
-use Rattle.itx_1d.specs.declared.Kind.the-variants.{Wht}
-use Rattle.itx_1d.specs.Manners.{is-wht}
+use Rattle.levels.specs.declared.Kind.{Kind}
+use Rattle.levels.specs.declared.Kind.the-variants.{Wht}
+use Rattle.levels.specs.Manners.{is-wht}
 use Rattle.itx_1d.specs.Inner.{Lined}
 use Rattle.bitdepth.specs.declared.Depth.{Depth}
 use Rattle.bitdepth.specs.Depths.{maximum}
@@ -25,14 +25,15 @@ use Rattle.residual.specs.declared.Engine.{Engine}
 use Rattle.residual.specs.Blocks.{way-by, residual}
 use Rattle.residual.specs.Inner.{Sized, ResolvedIn, wht-plan}
 use Rattle.residual.proofs.Places.{by-row}
-use Rattle.itx.specs.Answers.{Ready, Passed}
+use Rattle.itx.specs.Inner.{Ready, Passed}
 
 pub zeros-at : (n i : ℕ) → at (replicate n (pos 0)) i ≡ pos 0
 zeros-at zero i = refl
 zeros-at (suc n) zero = refl
 zeros-at (suc n) (suc i) = zeros-at n i
 
-module _ {e : Engine} {p : Plan} {d : Depth} {s : Spot} {r : ℕ} {ps : List ℕ} {c : List ℤ} {n : ℕ} {t : List ℤ} {mark : Bool} (m : ResolvedIn n e p d c r t mark) where
+module _ {e : Engine} {p : Plan} {d : Depth} {s : Spot} {r : ℕ} {ps : List ℕ} {c : List ℤ} {n : ℕ} {t : List ℤ} {mark : Bool}
+    (m : ResolvedIn n e p d c r t mark) where
   module _ (columns-in : s .columns ≤ p .w) (rows-in : s .rows ≤ p .h) where
     pub adding : Sized p → p .h * p .w ≤ n → spot-outside (length ps) s ≡ false → Adding s (p .w) ps t
     adding k room inside =
@@ -50,14 +51,12 @@ module _ {e : Engine} {p : Plan} {d : Depth} {s : Spot} {r : ℕ} {ps : List ℕ
         → ps′ ≡ add-rows top ps (begins s) (λ y x. left (p .columns) (at t (y * p .w + x))) (s .columns) (s .rows)
         → c′ ≡ replicate (p .w * p .h) (pos 0) ++ drop (p .w * p .h) c → Passed e p d s r ps c mark ps′ c′
     painted top-is added cleared =
-        let v : ℕ → ℕ → ℤ = λ y x. left (p .columns) (at t (y * p .w + x)) in
-        let u = residual (way-by e p d) c r in
-        record {
+        let v : ℕ → ℕ → ℤ = λ y x. left (p .columns) (at t (y * p .w + x)) in let u = residual (way-by e p d) c r in record {
           mark-is = m .mark-is;
           pixels-are =
               added ∙ ap (λ (q : ℕ). add-rows q ps (begins s) v (s .columns) (s .rows)) top-is
-              ∙ rows-ext (maximum d) ps (begins s) v u (s .columns) (s .rows)
-              (λ y x l b. ap (add-pixel (maximum d) _) (ap (left (p .columns)) (m .elements y x (omega (arith, l, rows-in)) (omega (arith, b, columns-in)))));
+              ∙ rows-ext (maximum d) ps (begins s) v u (s .columns) (s .rows) (λ y x l b. ap (add-pixel (maximum d) _)
+              (ap (left (p .columns)) (m .elements y x (omega (arith, l, rows-in)) (omega (arith, b, columns-in)))));
           coefs-are = cleared;
         }
 

@@ -13,7 +13,7 @@ use lib.ListN.{replicate, drop}
 use Rattle.whole.specs.Lists.{at, first}
 use Rattle.whole.specs.Checks.{accept, refuse, then, unless-at, when, judged}
 use Rattle.whole.proofs.Counts.{first-none, none-first}
-use Rattle.itx_1d.specs.Calls.{acceptance, refusal}
+use Rattle.whole.specs.Answers.{acceptance, refusal}
 use Rattle.bitdepth.specs.declared.Depth.{Depth}
 use Rattle.bitdepth.specs.Depths.{maximum}
 use Rattle.levels.specs.declared.Plan.{Plan}
@@ -24,7 +24,8 @@ use Rattle.residual.specs.declared.Engine.the-variants.{First}
 use Rattle.residual.specs.Blocks.{way, way-by, residual}
 use Rattle.coefs.specs.Coefs.{nonzero, in-dead-row, Covers}
 use Rattle.pixels.specs.Adds.{add-pixel}
-use Rattle.itx.specs.Calls.{Block, Call, plain, live, bad-rows, stray, rows-line, stray-line, with-depth, table, verdict, Outcome, short, live-rows, by-shortcut, by-passes, outcome-of, outcome}
+use Rattle.itx.specs.Calls.{Block, Call, plain, live, bad-rows, stray, rows-line, stray-line, with-depth, table, verdict, Outcome}
+use Rattle.itx.specs.Calls.{short, live-rows, by-shortcut, by-passes, outcome-of, outcome}
 use Rattle.itx.specs.Demands.{Accepted, whole}
 use Rattle.itx.proofs.LiveRows.{quiet, residual-same, marked-same}
 use Rattle.pixels.proofs.Pixels.{rows-ext}
@@ -74,14 +75,13 @@ live-inside call b p d a = rows-inside call p (a .rows)
 
 module _ (b : Block) (p : Plan) (d : Depth) where
   -- by either engine
-  pub rows-all : (e : Engine) (r : ℕ) → Sided (p .w) → r ≤ p .h → Covers (p .w) (p .h) (b .coefs) r → by-passes b p d (way-by e p d) r ≡ by-passes b p d (way-by e p d) (p .h)
+  pub rows-all : (e : Engine) (r : ℕ) → Sided (p .w) → r ≤ p .h → Covers (p .w) (p .h) (b .coefs) r
+      → by-passes b p d (way-by e p d) r ≡ by-passes b p d (way-by e p d) (p .h)
   rows-all e r s l k =
-      let 𝓦 = way-by e p d in
-      let n = p .w * p .h in
-      let rs = residual 𝓦 (b .coefs) in
-      λ i. record {
+      let 𝓦 = way-by e p d in let n = p .w * p .h in let rs = residual 𝓦 (b .coefs) in λ i. record {
         answer = acceptance (marked-same 𝓦 (quiet e p d s) (b .coefs) r l k i);
-        pixels = rows-ext (maximum d) (b .plane .pixels) (begins (lies (b .plane))) (rs r) (rs (p .h)) (b .plane .view .columns) (b .plane .view .rows) (λ y x g f. ap (add-pixel (maximum d) _) (residual-same 𝓦 (quiet e p d s) (b .coefs) r l k y x)) i;
+        pixels = rows-ext (maximum d) (b .plane .pixels) (begins (lies (b .plane))) (rs r) (rs (p .h)) (b .plane .view .columns)
+            (b .plane .view .rows) (λ y x g f. ap (add-pixel (maximum d) _) (residual-same 𝓦 (quiet e p d s) (b .coefs) r l k y x)) i;
         coefs = replicate n (pos 0) ++ drop n (b .coefs);
       }
 
@@ -116,12 +116,32 @@ module _ (b : Block) (p : Plan) (d : Depth) where
 
   -- what any call accepts, the plain call with eob 0 accepts
   pub accepted-plain : {call : Call} → Accepted call b p d → Accepted (plain (pos 0)) b p d
-  accepted-plain a = record { planned = a .planned; deep = a .deep; eob = refl; rows = refl; enough = a .enough; placed = a .placed; ranged = a .ranged; covered = refl; sound = a .sound }
+  accepted-plain a = record {
+    planned = a .planned;
+    deep = a .deep;
+    eob = refl;
+    rows = refl;
+    enough = a .enough;
+    placed = a .placed;
+    ranged = a .ranged;
+    covered = refl;
+    sound = a .sound;
+  }
 
   module _ (good : Accepted (plain (pos 0)) b p d) where
     -- with any eob, and with any covering count
     pub with-eob : (n : ℕ) → Accepted (plain (pos n)) b p d
-    with-eob n = record { planned = good .planned; deep = good .deep; eob = refl; rows = refl; enough = good .enough; placed = good .placed; ranged = good .ranged; covered = refl; sound = good .sound }
+    with-eob n = record {
+      planned = good .planned;
+      deep = good .deep;
+      eob = refl;
+      rows = refl;
+      enough = good .enough;
+      placed = good .placed;
+      ranged = good .ranged;
+      covered = refl;
+      sound = good .sound;
+    }
 
     pub with-rows : (r : ℕ) → 1 ≤ r → r ≤ p .h → Covers (p .w) (p .h) (b .coefs) r → Accepted (live r) b p d
     with-rows r g l k = record {
@@ -139,22 +159,26 @@ module _ (b : Block) (p : Plan) (d : Depth) where
     -- what is left of the table for a live-row call
     live-checks : (r : ℕ) → verdict (live r) b ≡ judged (rows-line (live r) ∷ stray-line (live r) (b .coefs) ∷ []) (p, d)
     live-checks r =
-        let t = table (live r) b in
-        ap (λ c. then (then c (with-depth (b .depth))) (judged t)) (good .planned) ∙ ap (λ c. then (then c (λ d. accept (p, d))) (judged t)) (good .deep)
-        ∙ (λ j. unless-at (when (bad-rows (live r) (p .h))) 5 (unless-at (when (good .enough j)) 6 (unless-at (when (good .placed .seen j)) 20 (unless-at (when (good .placed .stride j)) 7 (unless-at (when (good .placed .inside j)) 8
+        let t = table (live r) b in ap (λ c. then (then c (with-depth (b .depth))) (judged t)) (good .planned)
+        ∙ ap (λ c. then (then c (λ d. accept (p, d))) (judged t)) (good .deep)
+        ∙ (λ j. unless-at (when (bad-rows (live r) (p .h))) 5 (unless-at (when (good .enough j)) 6
+        (unless-at (when (good .placed .seen j)) 20
+        (unless-at (when (good .placed .stride j)) 7 (unless-at (when (good .placed .inside j)) 8
         (unless-at (good .ranged j) 9 (unless-at (stray (live r) p (b .coefs)) 10 (unless-at (good .sound j) 21 (accept (p, d))))))))))
 
     stray-at : (r i : ℕ) → 1 ≤ r → r ≤ p .h → stray (live r) p (b .coefs) ≡ some i → outcome (live r) b ≡ outcome-of way (live r) b (refuse 10 i)
     unfolding outcome
     stray-at r i g l e =
-        ap (outcome-of way (live r) b) (live-checks r ∙ (λ j. unless-at (when (not (le-leb 1 r g j && le-leb r (p .h) l j))) 5 (unless-at (e j) 10 (accept (p, d)))))
+        ap (outcome-of way (live r) b)
+        (live-checks r ∙ (λ j. unless-at (when (not (le-leb 1 r g j && le-leb r (p .h) l j))) 5 (unless-at (e j) 10 (accept (p, d)))))
 
     -- a count in the bounds that does not cover is refused as stray, at the first stray's place
     pub stray-refused : (r : ℕ) → 1 ≤ r → r ≤ p .h → (Covers (p .w) (p .h) (b .coefs) r → ⊥)
         → (i : ℕ) × (first (p .w * p .h) (in-dead-row r (p .h) (b .coefs)) ≡ some i) × (outcome (live r) b .answer ≡ refusal 10 i)
     stray-refused r g l f = go (stray (live r) p (b .coefs)) refl
       where
-        go : (o : Option ℕ) → stray (live r) p (b .coefs) ≡ o → (i : ℕ) × (stray (live r) p (b .coefs) ≡ some i) × (outcome (live r) b .answer ≡ refusal 10 i)
+        go : (o : Option ℕ) → stray (live r) p (b .coefs) ≡ o → (i : ℕ) × (stray (live r) p (b .coefs) ≡ some i)
+            × (outcome (live r) b .answer ≡ refusal 10 i)
         go none e = absurd (f (covers-of (p .w) (p .h) (h-positive (plain (pos 0)) good) (b .coefs) r e))
         go (some i) e = (i, e, ap (λ (o : Outcome). o .answer) (stray-at r i g l e))
 
@@ -164,7 +188,8 @@ module _ (b : Block) (p : Plan) (d : Depth) where
     not-stray r k e = go (bad-rows (live r) (p .h)) (sym (ap (λ v. outcome-of way (live r) b v .answer .number) steps) ∙ e)
       where
         steps : verdict (live r) b ≡ judged (rows-line (live r) ∷ []) (p, d)
-        steps = live-checks r ∙ (λ j. unless-at (when (bad-rows (live r) (p .h))) 5 (unless-at (strays-none (p .w) (p .h) (h-positive (plain (pos 0)) good) (b .coefs) r k j) 10 (accept (p, d))))
+        steps = live-checks r ∙ (λ j. unless-at (when (bad-rows (live r) (p .h))) 5
+            (unless-at (strays-none (p .w) (p .h) (h-positive (plain (pos 0)) good) (b .coefs) r k j) 10 (accept (p, d))))
 
         go : (t : Bool) → outcome-of way (live r) b (unless-at (when t) 5 (accept (p, d))) .answer .number ≡ 10 → ⊥
         go true f = omega arith

@@ -10,14 +10,14 @@ use Rattle.whole.specs.Checks.{Check, accept, refuse, then, unless}
 use Rattle.whole.proofs.Checks.{refuse≢accept}
 use Rattle.whole.proofs.Clips.{or-false}
 use Rattle.whole.proofs.Counts.{any-none}
-use Rattle.itx_1d.specs.Calls.{Answer, refusal}
-use Rattle.itx_1d.specs.Manners.{is-adst}
+use Rattle.whole.specs.Answers.{Answer, refusal}
+use Rattle.levels.specs.Manners.{is-adst}
 use Rattle.bitdepth.specs.declared.Depth.{Depth}
 use Rattle.levels.specs.declared.Plan.{Plan}
 use Rattle.levels.specs.Plans.{plan}
 use Rattle.residual.specs.declared.Engine.the-variants.{First, Spec}
 use Rattle.residual.specs.Blocks.{way-by, marked, row, column}
-use Rattle.itx.specs.Answers.{left, Allowed, adst-planned}
+use Rattle.itx.specs.Inner.{left, Allowed, adst-planned}
 use Rattle.itx.specs.Av1.{av1-way}
 use Rattle.itx.specs.Calls.{Block, Call, Outcome, Meets, checked, spec-verdict, with-adst, short, live-rows, by-shortcut, outcome-of, outcome}
 use Rattle.itx.specs.Spec.{spec-outcome}
@@ -34,7 +34,8 @@ is-not t e = subst⁻¹ (λ (b : Bool). T (not b)) e tt
 
 pub allowed-spec : (c : Check Plan) → adst-planned c ≡ false → Allowed Spec c
 allowed-spec c h = record {
-  served = λ p e. (let parts = or-false (is-adst (p .rows)) (is-adst (p .columns)) (sym (ap adst-planned e) ∙ h) in record { rows = is-not _ (parts .0); columns = is-not _ (parts .1) });
+  served = λ p e. (let parts = or-false (is-adst (p .rows)) (is-adst (p .columns)) (sym (ap adst-planned e) ∙ h) in
+      record { rows = is-not _ (parts .0); columns = is-not _ (parts .1) });
 }
 
 -- ---- the code's steps are the specification's: 181 by 256 is 2896 by 4096, and the column range is that of its bits
@@ -72,7 +73,8 @@ module _ (call : Call) (b : Block) where
     unfolding outcome
     first-meets e = met (ap (λ (k : Call). left First k b) e)
 
-    pub spec-meets : {asked : Call} → asked ≡ call → adst-planned planned ≡ false → Meets (left Spec asked b) answer ps cs → Meets (spec-outcome call b) answer ps cs
+    pub spec-meets : {asked : Call} → asked ≡ call → adst-planned planned ≡ false → Meets (left Spec asked b) answer ps cs
+        → Meets (spec-outcome call b) answer ps cs
     unfolding spec-outcome
     spec-meets e h m =
         met (ap (λ (k : Call). left Spec k b) e ∙ (λ i. outcome-of (λ p d. way-is p d i) call b (checked call b (sym (judged planned h) i)))) m
@@ -88,7 +90,8 @@ module _ (call : Call) (b : Block) where
   unfolding spec-outcome
   spec-same h e = ap by-spec (judged planned h) ∙ sym (unmarked-av1 b call e)
 
-  pub accepted-same : (p : Plan) (d : Depth) → spec-verdict call b ≡ accept (p, d) → outcome call b .answer .mark ≡ false → spec-outcome call b ≡ outcome call b
+  pub accepted-same : (p : Plan) (d : Depth) → spec-verdict call b ≡ accept (p, d) → outcome call b .answer .mark ≡ false
+      → spec-outcome call b ≡ outcome call b
   accepted-same p d a e = go (adst-planned planned) refl
     where
       go : (t : Bool) → adst-planned planned ≡ t → spec-outcome call b ≡ outcome call b

@@ -16,9 +16,9 @@ use Rattle.whole.proofs.Clips.{clip-low, clip-high, clip-none, clip-kept}
 use Rattle.whole.proofs.Counts.{tab-ext, any-none, first-none}
 use Rattle.whole.proofs.Parts.{pp, nn, rep-self, rep-add, parts-lt}
 use Rattle.whole.proofs.Ranges.{zero-inside, scaled-inside, rounded-twice, rounded-mono, clip-floor, clip-top}
-use Rattle.av1.specs.Sides.{side}
-use Rattle.itx_1d.specs.declared.Kind.the-variants.{Dct}
-use Rattle.itx_1d.specs.Calls.{acceptance}
+use Rattle.levels.specs.Sides.{side}
+use Rattle.levels.specs.declared.Kind.the-variants.{Dct}
+use Rattle.whole.specs.Answers.{acceptance}
 use Rattle.itx_1d.specs.Passes.{Passed, pass}
 use Rattle.itx_1d.proofs.PassLaws.{only, dc-pass}
 use Rattle.bitdepth.specs.declared.Depth.{Depth}
@@ -59,12 +59,15 @@ prescale-inside m w h v e = go (eqb (w * 2) h || eqb (h * 2) w)
     go false = e
 
 -- a DCT pass along a side, on its first element alone
-dc-side : (n m : ℕ) (v : ℤ) → Sided n → outside v (low m) (high m) ≡ false → pass Dct (side n) m (tab n (only v)) ≡ record { values = replicate n (level v); mark = false }
-dc-side n m v s e = subst (λ (k : ℕ). pass Dct (side n) m (tab k (only v)) ≡ record { values = replicate k (level v); mark = false }) s (dc-pass (side n) m v e)
+dc-side : (n m : ℕ) (v : ℤ) → Sided n → outside v (low m) (high m) ≡ false
+    → pass Dct (side n) m (tab n (only v)) ≡ record { values = replicate n (level v); mark = false }
+dc-side n m v s e = subst
+    (λ (k : ℕ). pass Dct (side n) m (tab k (only v)) ≡ record { values = replicate k (level v); mark = false }) s (dc-pass (side n) m v e)
 
 -- ---- the passes on the first coefficient alone, with one live row
 
-module _ (w h s : ℕ) (w-sided : Sided w) (h-sided : Sided h) (d : Depth) (c : List ℤ) (first-inside : outside (at c 0) (low (row-range d)) (high (row-range d)) ≡ false)
+module _ (w h s : ℕ) (w-sided : Sided w) (h-sided : Sided h) (d : Depth) (c : List ℤ)
+    (first-inside : outside (at c 0) (low (row-range d)) (high (row-range d)) ≡ false)
     (alone : (i : ℕ) → 0 < i → i < w * h → at c i ≡ pos 0) where
   abbrev 𝓦 : Way
   𝓦 = way (dct-dct w h s) d
@@ -82,11 +85,12 @@ module _ (w h s : ℕ) (w-sided : Sided w) (h-sided : Sided h) (d : Depth) (c : 
   row-in : (x : ℕ) → x < w → entered 𝓦 c 0 x ≡ only e x
   row-in zero l = ap (λ (i : ℕ). prescale w h (at c i)) (omega arith)
   row-in (suc x) l =
-      ap (prescale w h) (alone (0 + suc x * h) (omega (arith, side-bounds h h-sided .0)) (omega (arith, side-bounds h h-sided .0, mul-le-mul-right {m = suc (suc x)} {n = w} h l)))
-      ∙ prescale-zero w h
+      ap (prescale w h) (alone (0 + suc x * h) (omega (arith, side-bounds h h-sided .0))
+      (omega (arith, side-bounds h h-sided .0, mul-le-mul-right {m = suc (suc x)} {n = w} h l))) ∙ prescale-zero w h
 
   row-is : row 𝓦 c 0 ≡ record { values = replicate w (level e); mark = false }
-  row-is = ap (𝓦 .row) (tab-ext w (entered 𝓦 c 0) (only e) row-in) ∙ dc-side w (row-range d) e w-sided (prescale-inside (row-range d) w h (at c 0) first-inside)
+  row-is = ap (𝓦 .row) (tab-ext w (entered 𝓦 c 0) (only e) row-in)
+      ∙ dc-side w (row-range d) e w-sided (prescale-inside (row-range d) w h (at c 0) first-inside)
 
   middle-is : (y x : ℕ) → x < w → middle 𝓦 c 1 y x ≡ only g y
   middle-is zero x l = ap (𝓦 .between) (ap (λ (p : Passed). at (p .values) x) row-is ∙ getD-replicate w x (level e) (pos 0) l)
@@ -94,19 +98,21 @@ module _ (w h s : ℕ) (w-sided : Sided w) (h-sided : Sided h) (d : Depth) (c : 
 
   column-is : (x : ℕ) → x < w → column 𝓦 c 1 x ≡ record { values = replicate h (level g); mark = false }
   column-is x l =
-      let m = column-range d in
-      ap (𝓦 .column) (tab-ext h (λ y. middle 𝓦 c 1 y x) (only g) (λ y b. middle-is y x l))
+      let m = column-range d in ap (𝓦 .column) (tab-ext h (λ y. middle 𝓦 c 1 y x) (only g) (λ y b. middle-is y x l))
       ∙ dc-side h m g h-sided (clip-kept (round2 (level e) s) (low m) (high m) (pos 0) (zero-inside m))
 
   pub residual-is : (y x : ℕ) → y < h → x < w → residual 𝓦 c 1 y x ≡ last g
-  residual-is y x b l = ap (𝓦 .leave) (ap (λ (p : Passed). at (p .values) y) (column-is x l) ∙ getD-replicate h y (level g) (pos 0) b) ∙ rounded-twice g
+  residual-is y x b l = ap (𝓦 .leave)
+      (ap (λ (p : Passed). at (p .values) y) (column-is x l) ∙ getD-replicate h y (level g) (pos 0) b) ∙ rounded-twice g
 
   pub unmarked : marked 𝓦 c 1 ≡ false
-  unmarked = ap₂ (λ a b. (a || false) || b) (ap (λ (p : Passed). p .mark) row-is) (any-none w (λ x. column 𝓦 c 1 x .mark) (λ x l. ap (λ (p : Passed). p .mark) (column-is x l)))
+  unmarked = ap₂ (λ a b. (a || false) || b) (ap (λ (p : Passed). p .mark) row-is)
+      (any-none w (λ x. column 𝓦 c 1 x .mark) (λ x l. ap (λ (p : Passed). p .mark) (column-is x l)))
 
 -- ---- where the clip between the passes acts, the pixel is at an end either way
 
-ends : (d : Depth) → (maximum d + pp (last (low (column-range d))) ≤ nn (last (low (column-range d)))) × (maximum d + nn (last (high (column-range d))) ≤ pp (last (high (column-range d))))
+ends : (d : Depth) → (maximum d + pp (last (low (column-range d))) ≤ nn (last (low (column-range d))))
+    × (maximum d + nn (last (high (column-range d))) ≤ pp (last (high (column-range d))))
 unfolding _>>_
 ends Eight = (omega arith, omega arith)
 ends Ten = (omega arith, omega arith)
@@ -133,8 +139,10 @@ module _ (d : Depth) (q : ℕ) (small : q ≤ maximum d) (v : ℤ) where
   saturates = go (ltZ v lo) (ltZ hi v) refl refl
     where
       go : (s t : Bool) → ltZ v lo ≡ s → ltZ hi v ≡ t → added (clip v lo hi) ≡ added v
-      go true t a b = ap added (clip-low v lo hi a) ∙ below lo (omega arith) ∙ sym (below v (rounded-mono v lo (omega (arith, parts-lt v lo (subst T (sym a) tt)))))
-      go false true a b = ap added (clip-high v lo hi a b) ∙ above hi (omega arith) ∙ sym (above v (rounded-mono hi v (omega (arith, parts-lt hi v (subst T (sym b) tt)))))
+      go true t a b = ap added (clip-low v lo hi a) ∙ below lo (omega arith)
+          ∙ sym (below v (rounded-mono v lo (omega (arith, parts-lt v lo (subst T (sym a) tt)))))
+      go false true a b = ap added (clip-high v lo hi a b) ∙ above hi (omega arith)
+          ∙ sym (above v (rounded-mono hi v (omega (arith, parts-lt hi v (subst T (sym b) tt)))))
       go false false a b = ap added (clip-none v lo hi a b)
 
 -- ---- the coefficients
@@ -142,7 +150,8 @@ module _ (d : Depth) (q : ℕ) (small : q ≤ maximum d) (v : ℤ) where
 zeros-front : (n : ℕ) (c : List ℤ) → n ≤ length c → ((i : ℕ) → i < n → at c i ≡ pos 0) → replicate n (pos 0) ++ drop n c ≡ c
 zeros-front zero c l z = refl
 zeros-front (suc n) [] l z = let f : ⊥ = omega arith in absurd f
-zeros-front (suc n) (x ∷ c) l z = ap₂ (λ (y : ℤ) (s : List ℤ). y ∷ s) (sym (z 0 (omega arith))) (zeros-front n c (omega arith) (λ i k. z (suc i) (omega arith)))
+zeros-front (suc n) (x ∷ c) l z = ap₂ (λ (y : ℤ) (s : List ℤ). y ∷ s) (sym (z 0 (omega arith)))
+    (zeros-front n c (omega arith) (λ i k. z (suc i) (omega arith)))
 
 -- clearing the first is clearing all, where the others are zero
 cleared : (n : ℕ) (c : List ℤ) → 0 < n → n ≤ length c → ((i : ℕ) → 0 < i → i < n → at c i ≡ pos 0) → set c 0 (pos 0) ≡ replicate n (pos 0) ++ drop n c
@@ -173,25 +182,30 @@ module _ (b : Block) (w h s : ℕ) (d : Depth) (good : Accepted (plain (pos 0)) 
   small = none-above (maximum d) (b .plane .pixels) (lies (b .plane)) w (columns-in w h v (good .placed .seen) .1) (good .sound)
 
   pixel-same : (y x : ℕ) → y < v .rows → x < v .columns
-      → let q = getD (add-rows (maximum d) (b .plane .pixels) (begins (lies (b .plane))) (residual (way plan-here d) (b .coefs) 1) (v .columns) y) (place (b .plane) y x) 0 in
+      → let q = getD (add-rows (maximum d) (b .plane .pixels) (begins (lies (b .plane)))
+      (residual (way plan-here d) (b .coefs) 1) (v .columns) y) (place (b .plane) y x) 0 in
       add-pixel (maximum d) q (shortcut plan-here (at (b .coefs) 0)) ≡ add-pixel (maximum d) q (residual (way plan-here d) (b .coefs) 1 y x)
   unfolding Rattle.residual.specs.Blocks.shortcut
   pixel-same y x k l =
       let rs = residual (way plan-here d) (b .coefs) 1 in
       let q = getD (add-rows (maximum d) (b .plane .pixels) (begins (lies (b .plane))) rs (v .columns) y) (place (b .plane) y x) 0 in
       let n = length (b .plane .pixels) in
-      let waits = pixel-waits (maximum d) (b .plane .pixels) (begins (lies (b .plane))) (v .columns) (v .rows) (row-fits (b .plane .width) n w h v (good .placed)) (rows-apart (b .plane .width) n w h v (good .placed)) rs y x k l in
+      let waits = pixel-waits (maximum d) (b .plane .pixels) (begins (lies (b .plane))) (v .columns) (v .rows)
+      (row-fits (b .plane .width) n w h v (good .placed)) (rows-apart (b .plane .width) n w h v (good .placed)) rs y x k l in
       sym (saturates d q (subst (λ (n : ℕ). n ≤ maximum d) (sym waits) (small y x k l)) (round2 (level (prescale w h (at (b .coefs) 0))) s))
-      ∙ ap (add-pixel (maximum d) q) (sym (residual-is w h s (sided .0) (sided .1) d (b .coefs) first-inside alone y x (omega (arith, k, rows-in w h v (good .placed .seen) .1)) (omega (arith, l, columns-in w h v (good .placed .seen) .1))))
+      ∙ ap (add-pixel (maximum d) q) (sym (residual-is w h s (sided .0) (sided .1) d (b .coefs) first-inside alone y x
+      (omega (arith, k, rows-in w h v (good .placed .seen) .1)) (omega (arith, l, columns-in w h v (good .placed .seen) .1))))
 
   one-pass : by-shortcut b plan-here d ≡ by-passes b plan-here d (way plan-here d) 1
   one-pass = λ i. record {
     answer = acceptance (sym (unmarked w h s (sided .0) (sided .1) d (b .coefs) first-inside alone) i);
-    pixels = rows-ext (maximum d) (b .plane .pixels) (begins (lies (b .plane))) (λ y x. shortcut plan-here (at (b .coefs) 0)) (residual (way plan-here d) (b .coefs) 1) (v .columns) (v .rows) pixel-same i;
+    pixels = rows-ext (maximum d) (b .plane .pixels) (begins (lies (b .plane))) (λ y x. shortcut plan-here (at (b .coefs) 0))
+        (residual (way plan-here d) (b .coefs) 1) (v .columns) (v .rows) pixel-same i;
     coefs = cleared (w * h) (b .coefs) area-pos (ltb-false _ _ (good .enough)) alone i;
   }
 
   pub shortcut-whole : outcome (plain (pos 0)) b ≡ whole b plan-here d
   shortcut-whole =
       opened b plan-here d (plain (pos 0)) good ∙ one-pass
-      ∙ rows-whole b plan-here d 1 (sided .0) (omega (arith, side-bounds h (sided .1) .0)) (one-row w h s (sided .0) (sided .1) d (b .coefs) first-inside alone)
+      ∙ rows-whole b plan-here d 1 (sided .0) (omega (arith, side-bounds h (sided .1) .0))
+      (one-row w h s (sided .0) (sided .1) d (b .coefs) first-inside alone)

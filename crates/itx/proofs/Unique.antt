@@ -5,11 +5,12 @@ use mathlib.Core.List.{List}
 use Prim.Native.Nat.{ℕ}
 use lib.Dec.{eqb}
 use lib.IntN.{ℤ}
-use Rattle.itx_1d.specs.Calls as Passes
+use Rattle.whole.specs.Answers as Answers
 use Rattle.itx.specs.declared.Answer.{Answer}
 use Rattle.itx.specs.declared.Answer.the-variants.{Done, Refused}
 use Rattle.itx.specs.declared.Refusal.{Refusal}
-use Rattle.itx.specs.declared.Refusal.the-variants.{NoSize, NoType, NoDepth, NegativeEob, NoSuchRows, FewCoefficients, NotVisible, BadStride, RowOutside, OutOfRange, Stray, AboveMaximum}
+use Rattle.itx.specs.declared.Refusal.the-variants.{NoSize, NoType, NoDepth, NegativeEob, NoSuchRows, FewCoefficients, NotVisible}
+use Rattle.itx.specs.declared.Refusal.the-variants.{BadStride, RowOutside, OutOfRange, Stray, AboveMaximum}
 use Rattle.itx.specs.Answers.{number, place, answer-of}
 use Rattle.itx.specs.Calls.{Outcome, Meets}
 use Rattle.itx.proofs.Outcomes.{one-outcome}
@@ -17,18 +18,9 @@ use Rattle.itx.proofs.Outcomes.{one-outcome}
 -- the refusal, and the answer, that the table's numbers stand for
 refusal : ℕ → ℕ → Refusal
 refusal n i =
-    cond (eqb n 1) NoSize
-    (cond (eqb n 2) NoType
-    (cond (eqb n 3) NoDepth
-    (cond (eqb n 4) NegativeEob
-    (cond (eqb n 5) NoSuchRows
-    (cond (eqb n 6) FewCoefficients
-    (cond (eqb n 20) NotVisible
-    (cond (eqb n 7) BadStride
-    (cond (eqb n 8) RowOutside
-    (cond (eqb n 9) (OutOfRange i)
-    (cond (eqb n 10) (Stray i)
-    (AboveMaximum i)))))))))))
+    cond (eqb n 1) NoSize (cond (eqb n 2) NoType (cond (eqb n 3) NoDepth (cond (eqb n 4) NegativeEob (cond (eqb n 5) NoSuchRows
+    (cond (eqb n 6) FewCoefficients (cond (eqb n 20) NotVisible (cond (eqb n 7) BadStride (cond (eqb n 8) RowOutside
+    (cond (eqb n 9) (OutOfRange i) (cond (eqb n 10) (Stray i) (AboveMaximum i)))))))))))
 
 refusal-is : (r : Refusal) → refusal (number r) (place r) ≡ r
 unfolding refusal
@@ -45,7 +37,7 @@ refusal-is (OutOfRange i) = refl
 refusal-is (Stray i) = refl
 refusal-is (AboveMaximum i) = refl
 
-back : Passes.Answer → Answer
+back : Answers.Answer → Answer
 back a = cond (eqb (a .number) 0) (Done (a .mark)) (Refused (refusal (a .number) (a .place)))
 
 not-zero : (r : Refusal) → eqb (number r) 0 ≡ false
@@ -67,5 +59,6 @@ unfolding back
 back-is (Done b) = refl
 back-is (Refused r) = (λ i. cond (not-zero r i) (Done false) (Refused (refusal-is r i)))
 
-pub one-answer : {o : Outcome} {r r′ : Answer} {ps ps′ : List ℕ} {c c′ : List ℤ} → Meets o (answer-of r) ps c → Meets o (answer-of r′) ps′ c′ → (r ≡ r′) × (ps ≡ ps′) × (c ≡ c′)
+pub one-answer : {o : Outcome} {r r′ : Answer} {ps ps′ : List ℕ} {c c′ : List ℤ} → Meets o (answer-of r) ps c
+    → Meets o (answer-of r′) ps′ c′ → (r ≡ r′) × (ps ≡ ps′) × (c ≡ c′)
 one-answer {r = r} {r′ = r′} m m′ = let o = one-outcome m m′ in (sym (back-is r) ∙ ap back (o .0) ∙ back-is r′, o .1, o .2)

@@ -33,8 +33,7 @@ then-same (refuse n i) f g same = refl
 -- what an acceptance tells of the plan and of the depth
 pub planned-at : (k : Check Plan) (n : ℕ) (p : Plan) (d : Depth) → then k (with-depth n) ≡ accept (p, d) → (k ≡ accept p) × (depth n ≡ accept d)
 planned-at k n p d e =
-    let g = open-then k (with-depth n) (p, d) e in
-    let h = open-then (depth n) (λ d. accept (g .0, d)) (p, d) (g .2) in
+    let g = open-then k (with-depth n) (p, d) e in let h = open-then (depth n) (λ d. accept (g .0, d)) (p, d) (g .2) in
     let q = same-accept (g .0, h .0) (p, d) (h .2) in
     (g .1 ∙ ap accept (ap (λ (a : Plan × Depth). a .0) q), h .1 ∙ ap accept (ap (λ (a : Plan × Depth). a .1) q))
 
@@ -43,14 +42,24 @@ module _ (call : Call) (b : Block) where
   accepting p d a =
       ap (λ c. then (then c (with-depth (b .depth))) (judged (table call b))) (a .planned)
       ∙ ap (λ c. then (then c (λ d. accept (p, d))) (judged (table call b))) (a .deep)
-      ∙ cleared (table call b) (p, d) (ap when (a .eob), (ap when (a .rows), (ap when (a .enough), (ap when (a .placed .seen), (ap when (a .placed .stride), (ap when (a .placed .inside), (a .ranged, (a .covered, (a .sound, tt)))))))))
+      ∙ cleared (table call b) (p, d) (
+        ap when (a .eob),
+        (
+          ap when (a .rows),
+          (
+            ap when (a .enough),
+            (
+              ap when (a .placed .seen),
+              (ap when (a .placed .stride), (ap when (a .placed .inside), (a .ranged, (a .covered, (a .sound, tt))))),
+            ),
+          ),
+        ),
+      )
 
   pub accepted-by : (p : Plan) (d : Depth) → verdict call b ≡ accept (p, d) → Accepted call b p d
   accepted-by p d e =
       let t = taken (then (plan (b .w) (b .h) (b .type)) (with-depth (b .depth))) (table call b) (p, d) e in
-      let g = planned-at (plan (b .w) (b .h) (b .type)) (b .depth) p d (t .0) in
-      let c = t .1 in
-      record {
+      let g = planned-at (plan (b .w) (b .h) (b .type)) (b .depth) p d (t .0) in let c = t .1 in record {
         planned = g .0;
         deep = g .1;
         eob = when-none _ (c .0);

@@ -1,4 +1,5 @@
--- E5: a block of which only a part is visible is treated as the whole block on a padded plane, read back in the visible part; and where all of it is visible, document 01's text stands.
+-- E5: a block of which only a part is visible is treated as the whole block on a padded plane, read back in the visible part; and where all
+-- of it is visible, document 01's text stands.
 use mathlib.Core.Path.{_≡_, refl, sym, ap, _∙_, subst⁻¹}
 use mathlib.Core.Bool.{Bool, true, false, cond, _&&_, _||_}
 use mathlib.Core.List.{[], _∷_}
@@ -25,9 +26,9 @@ use Rattle.pixels.specs.Adds.{add-pixel}
 use Rattle.pixels.specs.Above.{first-above}
 use Rattle.pixels.proofs.Above.{row-of, column-of, none-above, no-above}
 use Rattle.itx.specs.Calls.{Block, Call, bad-eob, bad-rows, range-line, stray-line, pixel-line, with-depth, table, verdict, outcome}
-use Rattle.itx.specs.Demands.{Accepted}
+use Rattle.itx.specs.Demands.{Accepted, addend}
 use Rattle.itx.specs.Visible.{over, shown, padded, table-01, verdict-01, painted-01}
-use Rattle.itx.proofs.Outcomes.{answer-is, coefs-are, pixels-are, pixel-rule, added}
+use Rattle.itx.proofs.Outcomes.{answer-is, coefs-are, pixels-are, pixel-rule}
 use Rattle.itx.proofs.Sameness.{sides}
 use Rattle.itx.proofs.Verdicts.{then-same, planned-at}
 
@@ -45,7 +46,8 @@ module _ (call : Call) (b : Block) (p : Plan) (d : Depth) (good : Accepted call 
       → getD (b .plane .pixels) (place (b .plane) y x) 0 ≡ getD (a .pixels) (place a y x) 0
       → getD (outcome call b .pixels) (place (b .plane) y x) 0 ≡ getD (outcome call (over b a) .pixels) (place a y x) 0
   pixel-on y x l m l′ m′ e =
-      pixel-rule call b p d good y x l m ∙ ap (λ (q : ℕ). add-pixel (maximum d) q (added call b p d y x)) e ∙ sym (pixel-rule call (over b a) p d good′ y x l′ m′)
+      pixel-rule call b p d good y x l m ∙ ap (λ (q : ℕ). add-pixel (maximum d) q (addend call b p d y x)) e
+      ∙ sym (pixel-rule call (over b a) p d good′ y x l′ m′)
 
 -- ---- the padded plane
 
@@ -90,10 +92,12 @@ module _ (w h : ℕ) (wide : 1 ≤ w) (tall : 1 ≤ h) (a : Plane) where
   padded-holds : (y x : ℕ) → y < a .view .rows → x < a .view .columns → a .view .rows ≤ h → a .view .columns ≤ w
       → getD (a .pixels) (place a y x) 0 ≡ getD (padded a w h .pixels) (place (padded a w h) y x) 0
   padded-holds y x l m k n =
-      sym (padded-pixel y x (omega (arith, l, k)) (omega (arith, m, n)) ∙ (λ j. cond (lt-ltb y (a .view .rows) l j && lt-ltb x (a .view .columns) m j) (getD (a .pixels) (place a y x) 0) 0))
+      sym (padded-pixel y x (omega (arith, l, k)) (omega (arith, m, n))
+      ∙ (λ j. cond (lt-ltb y (a .view .rows) l j && lt-ltb x (a .view .columns) m j) (getD (a .pixels) (place a y x) 0) 0))
 
   -- what is shown is small where every visible pixel is
-  shown-small : (top : ℕ) → ((y x : ℕ) → y < a .view .rows → x < a .view .columns → getD (a .pixels) (place a y x) 0 ≤ top) → (y x : ℕ) → shown a y x ≤ top
+  shown-small : (top : ℕ) → ((y x : ℕ) → y < a .view .rows → x < a .view .columns → getD (a .pixels) (place a y x) 0 ≤ top)
+      → (y x : ℕ) → shown a y x ≤ top
   shown-small top small y x = go (ltb y (a .view .rows)) (ltb x (a .view .columns)) refl refl
     where
       go : (s t : Bool) → ltb y (a .view .rows) ≡ s → ltb x (a .view .columns) ≡ t → cond (s && t) (getD (a .pixels) (place a y x) 0) 0 ≤ top
@@ -117,7 +121,8 @@ module _ (call : Call) (b : Block) (p : Plan) (d : Depth) (good : Accepted call 
   -- what is padded is 0, so 21 does not hold there either
   padded-sound : first-above (maximum d) (pad .pixels) (lies pad) (p .w) ≡ none
   padded-sound =
-      let visible = none-above (maximum d) (b .plane .pixels) (lies (b .plane)) (p .w) (columns-in (p .w) (p .h) v (good .placed .seen) .1) (good .sound) in
+      let visible = none-above (maximum d) (b .plane .pixels) (lies (b .plane)) (p .w)
+      (columns-in (p .w) (p .h) v (good .placed .seen) .1) (good .sound) in
       no-above (maximum d) (pad .pixels) (lies pad) (p .w) (omega arith)
       (λ y x l m. subst⁻¹ (λ (q : ℕ). q ≤ maximum d) (padded-pixel (p .w) (p .h) (sides-positive .0) (sides-positive .1) (b .plane) y x l m)
       (shown-small (p .w) (p .h) (sides-positive .0) (sides-positive .1) (b .plane) (maximum d) visible y x))
@@ -137,10 +142,10 @@ module _ (call : Call) (b : Block) (p : Plan) (d : Depth) (good : Accepted call 
 
   -- "equals the Rust run on a padded plane and read back in the visible part"
   pub as-padded : (outcome call b .answer ≡ outcome call (over b pad) .answer) × (outcome call b .coefs ≡ outcome call (over b pad) .coefs)
-      × ((y x : ℕ) → y < v .rows → x < v .columns → getD (outcome call b .pixels) (place (b .plane) y x) 0 ≡ getD (outcome call (over b pad) .pixels) (place pad y x) 0)
+      × ((y x : ℕ) → y < v .rows → x < v .columns
+      → getD (outcome call b .pixels) (place (b .plane) y x) 0 ≡ getD (outcome call (over b pad) .pixels) (place pad y x) 0)
   as-padded =
-      let r = rows-in (p .w) (p .h) v (good .placed .seen) .1 in
-      let c = columns-in (p .w) (p .h) v (good .placed .seen) .1 in (
+      let r = rows-in (p .w) (p .h) v (good .placed .seen) .1 in let c = columns-in (p .w) (p .h) v (good .placed .seen) .1 in (
         answer-on call b p d good pad padded-accepted,
         coefs-on call b p d good pad padded-accepted,
         λ y x l m.
@@ -157,14 +162,14 @@ module _ (call : Call) (b : Block) (columns : b .plane .view .columns ≡ b .w) 
 
     table-whole : (d : Depth) → judged (table call b) (p, d) ≡ judged (table-01 call b) (p, d)
     table-whole d =
-        let s = plan-sided (b .w) (b .h) (b .type) p e in
-        let c = columns ∙ sym (sized .0) in
-        let r = rows ∙ sym (sized .1) in
-        let seen = all-seen (p .w) (p .h) (b .plane .view) (omega (arith, side-bounds (p .w) (s .0) .0)) (omega (arith, side-bounds (p .h) (s .1) .0)) c r in
-        let u = b .plane .view in
-        let n = length (b .plane .pixels) in
-        λ i. unless-at (when (bad-eob call)) 4 (unless-at (when (bad-rows call (p .h))) 5 (unless-at (when (ltb (length (b .coefs)) (p .w * p .h))) 6 (unless-at (when (seen i)) 20
-        (unless-at (when (bad-stride (b .plane .width) (p .w) (u .stride .0))) 7 (unless-at (when (rows-outside n (u .offset) (in-pixels (b .plane .width) (u .stride .0)) (c i) (r i))) 8
+        let s = plan-sided (b .w) (b .h) (b .type) p e in let c = columns ∙ sym (sized .0) in let r = rows ∙ sym (sized .1) in
+        let seen = all-seen (p .w) (p .h) (b .plane .view) (omega (arith, side-bounds (p .w) (s .0) .0))
+        (omega (arith, side-bounds (p .h) (s .1) .0)) c r in
+        let u = b .plane .view in let n = length (b .plane .pixels) in λ i. unless-at (when (bad-eob call)) 4
+        (unless-at (when (bad-rows call (p .h))) 5
+        (unless-at (when (ltb (length (b .coefs)) (p .w * p .h))) 6 (unless-at (when (seen i)) 20
+        (unless-at (when (bad-stride (b .plane .width) (p .w) (u .stride .0))) 7
+        (unless-at (when (rows-outside n (u .offset) (in-pixels (b .plane .width) (u .stride .0)) (c i) (r i))) 8
         (judged (range-line (b .coefs) ∷ stray-line call (b .coefs) ∷ pixel-line (b .plane .pixels) (lies (b .plane)) ∷ []) (p, d)))))))
 
   -- the same refusals
@@ -175,7 +180,8 @@ module _ (call : Call) (b : Block) (columns : b .plane .view .columns ≡ b .w) 
       (λ a e. table-whole (a .0) (planned-at k (b .depth) (a .0) (a .1) e .0) (a .1))
 
   -- and the same pixels
-  pub pixels-whole : (p : Plan) (d : Depth) → Accepted call b p d → outcome call b .pixels ≡ painted-01 (maximum d) (b .plane) (p .w) (p .h) (added call b p d)
+  pub pixels-whole : (p : Plan) (d : Depth) → Accepted call b p d
+      → outcome call b .pixels ≡ painted-01 (maximum d) (b .plane) (p .w) (p .h) (addend call b p d)
   pixels-whole p d good =
-      pixels-are call b p d good
-      ∙ (λ i. painted-01 (maximum d) (b .plane) ((columns ∙ sym (sized p (good .planned) .0)) i) ((rows ∙ sym (sized p (good .planned) .1)) i) (added call b p d))
+      pixels-are call b p d good ∙ (λ i. painted-01 (maximum d) (b .plane) ((columns ∙ sym (sized p (good .planned) .0)) i)
+      ((rows ∙ sym (sized p (good .planned) .1)) i) (addend call b p d))

@@ -1,5 +1,5 @@
--- E2: eight-bit pages at their own width. The narrow calls promise the same outcome over a narrow plane, so everything that is proved of a block holds of
--- theirs. Here: that it is the wide call's, and which numbers never occur.
+-- E2: eight-bit pages at their own width. The narrow calls promise the same outcome over a narrow plane, so everything that is proved of a
+-- block holds of theirs. Here: that it is the wide call's, and which numbers never occur.
 use mathlib.Core.Path.{_≡_, refl, sym, ap, _∙_, subst⁻¹}
 use mathlib.Core.Bool.{Bool, true, false, cond, _&&_}
 use mathlib.Core.List.{List, [], _∷_, _++_}
@@ -16,8 +16,8 @@ use Rattle.whole.specs.Lists.{at}
 use Rattle.whole.specs.Checks.{Check, accept, refuse, then, unless-at, Line, when, judged}
 use Rattle.whole.proofs.Counts.{none-first}
 use Rattle.whole.proofs.Ranges.{inside, not-outside}
-use Rattle.coefs.specs.Coefs.{NoneOutside}
-use Rattle.itx_1d.specs.Calls.{acceptance}
+use Rattle.coefs.specs.Inner.{NoneOutside}
+use Rattle.whole.specs.Answers.{acceptance}
 use Rattle.bitdepth.specs.declared.Depth.{Depth}
 use Rattle.bitdepth.specs.declared.Depth.the-variants.{Eight, Ten, Twelve}
 use Rattle.bitdepth.specs.Depths.{row-range, maximum}
@@ -26,21 +26,25 @@ use Rattle.levels.specs.Plans.{plan}
 use Rattle.strided.specs.declared.Spot.{Spot}
 use Rattle.strided.specs.declared.View.{View}
 use Rattle.strided.specs.declared.Width.the-variants.{Narrow}
-use Rattle.strided.specs.Planes.{bad-view, spot, spot-outside, begins, lent, lent-8}
-use Rattle.strided.proofs.Widths.{doubled, same-spot, same-stride}
+use Rattle.strided.specs.Planes.{bad-view, spot, spot-outside, begins}
+use Rattle.strided.proofs.Widths.{same-spot, same-stride}
 use Rattle.residual.specs.Blocks.{way, residual, marked, shortcut}
 use Rattle.pixels.specs.Above.{above, first-above}
 use Rattle.pixels.specs.Adds.{add-rows}
-use Rattle.itx.specs.Calls.{Block, Call, eob-line, rows-line, count-line, lengths-lines, range-line, stray-line, pixel-line, table, with-depth, verdict, out-of-range, short, live-rows, outcome-of, outcome}
+use Rattle.itx.specs.Calls.{Block, Call, eob-line, rows-line, count-line, lengths-lines, range-line, stray-line, pixel-line, table}
+use Rattle.itx.specs.Calls.{with-depth, verdict, out-of-range, short, live-rows, outcome-of, outcome}
 use Rattle.itx.specs.Answers.{block}
-use Rattle.itx.proofs.Numbers.{num, answer-num, has, num-by, shift-by, checked-by}
+use Rattle.itx.specs.Widths.{narrow-block, wide-block, narrow-lines, one-of, narrow-numbers}
+use Rattle.itx.proofs.Numbers.{num, answer-num, num-by, shift-by, checked-by}
 
 -- a line that finds nothing can be left out
-pub left-out : {A : Type 0} (ls : List (Line A)) (l : Line A) (ms : List (Line A)) (a : A) → none ≡ l .1 a → judged (ls ++ l ∷ ms) a ≡ judged (ls ++ ms) a
+pub left-out : {A : Type 0} (ls : List (Line A)) (l : Line A) (ms : List (Line A)) (a : A) → none ≡ l .1 a
+    → judged (ls ++ l ∷ ms) a ≡ judged (ls ++ ms) a
 left-out [] l ms a e = λ i. unless-at (sym e i) (l .0) (judged ms a)
 left-out (k ∷ ls) l ms a e = λ i. unless-at (k .1 a) (k .0) (left-out ls l ms a e i)
 
-pub unasked : {A : Type 0} (k : Check A) (ls : List (Line A)) (l : Line A) (ms : List (Line A)) → ((a : A) → none ≡ l .1 a) → then k (judged (ls ++ l ∷ ms)) ≡ then k (judged (ls ++ ms))
+pub unasked : {A : Type 0} (k : Check A) (ls : List (Line A)) (l : Line A) (ms : List (Line A)) → ((a : A) → none ≡ l .1 a)
+    → then k (judged (ls ++ l ∷ ms)) ≡ then k (judged (ls ++ ms))
 unasked (accept a) ls l ms e = left-out ls l ms a (e a)
 unasked (refuse n i) ls l ms e = refl
 
@@ -54,12 +58,16 @@ range-none c p d held = sym (none-first (p .w * p .h) _ (λ i l. wider d (at c i
   where
     wider : (d : Depth) (v : ℤ) → outside v (low 32768) (high 32768) ≡ false → outside v (low (row-range d)) (high (row-range d)) ≡ false
     wider Eight v e = e
-    wider Ten v e = let k = inside (low 32768) (high 32768) v e in not-outside (low 131072) (high 131072) v (record { above = omega (arith, k .above); below = omega (arith, k .below) })
-    wider Twelve v e = let k = inside (low 32768) (high 32768) v e in not-outside (low 524288) (high 524288) v (record { above = omega (arith, k .above); below = omega (arith, k .below) })
+    wider Ten v e = let k = inside (low 32768) (high 32768) v e in
+        not-outside (low 131072) (high 131072) v (record { above = omega (arith, k .above); below = omega (arith, k .below) })
+    wider Twelve v e = let k = inside (low 32768) (high 32768) v e in
+        not-outside (low 524288) (high 524288) v (record { above = omega (arith, k .above); below = omega (arith, k .below) })
 
 -- no byte is above a maximum
 pub above-none : (ps : List ℕ) (s : Spot) (w : ℕ) (d : Depth) → ((i : ℕ) → getD ps i 0 ≤ 255) → none ≡ first-above (maximum d) ps s w
-above-none ps s w d bytes = sym (none-first (s .rows * w) (above (maximum d) ps s w) (λ j l. neither (ltb (j % w) (s .columns)) _ (le-ltb (maximum d) _ (le-trans (bytes _) (most d)))))
+above-none ps s w d bytes =
+    sym (none-first (s .rows * w) (above (maximum d) ps s w)
+    (λ j l. neither (ltb (j % w) (s .columns)) _ (le-ltb (maximum d) _ (le-trans (bytes _) (most d)))))
   where
     most : (d : Depth) → 255 ≤ maximum d
     most Eight = lit≤ tt
@@ -67,12 +75,11 @@ above-none ps s w d bytes = sym (none-first (s .rows * w) (above (maximum d) ps 
     most Twelve = lit≤ tt
 
 module _ (call : Call) (w h type : ℕ) (c : List ℤ) (ps : List ℕ) (v : View) where
-  -- the block as the narrow call is given it, and as the wide one would be
-  abbrev pub narrow : Block
-  narrow = block w h type 8 c (lent-8 ps v)
+  abbrev narrow : Block
+  narrow = narrow-block w h type c ps v
 
-  abbrev pub wide : Block
-  wide = block w h type 8 c (lent ps (doubled v))
+  abbrev wide : Block
+  wide = wide-block w h type c ps v
 
   same-table : table call narrow ≡ table call wide
   same-table = λ i.
@@ -88,12 +95,15 @@ module _ (call : Call) (w h type : ℕ) (c : List ℤ) (ps : List ℕ) (v : View
   same-left : (k : Check (Plan × Depth)) → outcome-of way call narrow k ≡ outcome-of way call wide k
   same-left (refuse n i) = refl
   same-left (accept (p, d)) =
-      let n = p .w * p .h in
-      let r = live-rows call p in
+      let n = p .w * p .h in let r = live-rows call p in
       let painted : (ℕ → ℕ) → (ℕ → ℕ → ℤ) → List ℕ = λ f u. add-rows (maximum d) ps f u (v .columns) (v .rows) in
       λ i. cond (short call p)
       (record { answer = acceptance false; pixels = painted (begins (same-spot v i)) (λ y x. shortcut p (at c 0)); coefs = set c 0 (pos 0) })
-      (record { answer = acceptance (marked (way p d) c r); pixels = painted (begins (same-spot v i)) (residual (way p d) c r); coefs = replicate n (pos 0) ++ drop n c })
+      (record {
+        answer = acceptance (marked (way p d) c r);
+        pixels = painted (begins (same-spot v i)) (residual (way p d) c r);
+        coefs = replicate n (pos 0) ++ drop n c;
+      })
 
   -- "It equals the wide form on the same numbers with twice the stride"
   pub narrow-is-wide : outcome call narrow ≡ outcome call wide
@@ -102,29 +112,28 @@ module _ (call : Call) (w h type : ℕ) (c : List ℤ) (ps : List ℕ) (v : View
 
   -- what an [i16] and a [u8] hold
   module _ (held : (i : ℕ) → outside (at c i) (low 32768) (high 32768) ≡ false) (bytes : (i : ℕ) → getD ps i 0 ≤ 255) where
-    abbrev pub narrow-lines : List (Line (Plan × Depth))
-    narrow-lines = lengths-lines call (length c) Narrow (length ps) v ++ stray-line call c ∷ []
+    abbrev lines : List (Line (Plan × Depth))
+    lines = narrow-lines call c ps v
 
-    -- "3, 9, 21 and an odd stride never occur": neither 9 nor 21 applies, 3 is no check of depth 8, and 7 of a narrow plane speaks of its length alone
-    pub narrow-verdict : verdict call narrow ≡ then (then (plan w h type) (with-depth 8)) (judged narrow-lines)
+    -- "3, 9, 21 and an odd stride never occur": neither 9 nor 21 applies, 3 is no check of depth 8, and 7 of a narrow plane speaks of its
+    -- length alone
+    pub narrow-verdict : verdict call narrow ≡ then (then (plan w h type) (with-depth 8)) (judged lines)
     narrow-verdict = go (plan w h type)
       where
-        here : (p : Plan) → judged (table call narrow) (p, Eight) ≡ judged narrow-lines (p, Eight)
+        here : (p : Plan) → judged (table call narrow) (p, Eight) ≡ judged lines (p, Eight)
         here p =
             let front = lengths-lines call (length c) Narrow (length ps) v in
             left-out front (range-line c) (stray-line call c ∷ pixel-line ps (spot Narrow v) ∷ []) (p, Eight) (range-none c p Eight (λ i l. held i))
-            ∙ left-out (front ++ stray-line call c ∷ []) (pixel-line ps (spot Narrow v)) [] (p, Eight) (above-none ps (spot Narrow v) (p .w) Eight bytes)
+            ∙ left-out (front ++ stray-line call c ∷ []) (pixel-line ps (spot Narrow v)) [] (p, Eight)
+            (above-none ps (spot Narrow v) (p .w) Eight bytes)
 
-        go : (k : Check Plan) → then (then k (with-depth 8)) (judged (table call narrow)) ≡ then (then k (with-depth 8)) (judged narrow-lines)
+        go : (k : Check Plan) → then (then k (with-depth 8)) (judged (table call narrow)) ≡ then (then k (with-depth 8)) (judged lines)
         go (accept p) = here p
         go (refuse n i) = refl
 
-    -- so these are all the numbers that a narrow call answers
-    abbrev pub narrow-numbers : List ℕ
-    narrow-numbers = 0 ∷ 1 ∷ 2 ∷ 4 ∷ 5 ∷ 6 ∷ 20 ∷ 7 ∷ 8 ∷ 10 ∷ []
-
-    pub never-others : T (has narrow-numbers (outcome call narrow .answer .number))
+    -- so the numbers that a narrow call answers are these
+    pub never-others : T (one-of narrow-numbers (outcome call narrow .answer .number))
     never-others =
-        subst⁻¹ (λ (n : ℕ). T (has narrow-numbers n)) (answer-num call narrow ∙ ap num narrow-verdict)
-        (num-by (has narrow-numbers) (then (then (plan w h type) (with-depth 8)) (judged narrow-lines)) tt
-        (checked-by (has narrow-numbers) w h type 8 (shift-by (has narrow-numbers) w h tt) tt tt narrow-lines tt))
+        subst⁻¹ (λ (n : ℕ). T (one-of narrow-numbers n)) (answer-num call narrow ∙ ap num narrow-verdict)
+        (num-by (one-of narrow-numbers) (then (then (plan w h type) (with-depth 8)) (judged lines)) tt
+        (checked-by (one-of narrow-numbers) w h type 8 (shift-by (one-of narrow-numbers) w h tt) tt tt lines tt))

@@ -1,164 +1,43 @@
 -- What the answers of the calls and of their checks say, in document 01's numbers.
-use mathlib.Core.Bool.{Bool, false}
-use mathlib.Core.List.{List, _++_}
-use mathlib.Core.Path.{_≡_}
-use Prim.Native.Nat.{ℕ, _*_, _≤_}
-use lib.IntN.{ℤ, pos}
-use lib.ListN.{length, set, replicate, drop}
-use Rattle.whole.specs.Lists.{at}
-use Rattle.whole.specs.Checks.{Check, accept, refuse}
-use Rattle.bitdepth.specs.declared.Depth.{Depth}
-use Rattle.bitdepth.specs.Depths.{maximum}
-use Rattle.levels.specs.declared.Plan.{Plan}
-use Rattle.strided.specs.Planes.{Plane, begins, spot-outside}
-use Rattle.strided.specs.declared.Spot.{Spot}
-use Rattle.pixels.specs.Adds.{add-rows}
-use Rattle.pixels.specs.Inner.{Looking}
-use Rattle.coefs.specs.Coefs.{Covers, Alike}
-use Rattle.residual.specs.declared.Engine.{Engine}
-use Rattle.residual.specs.Blocks.{way-by, residual, marked, shortcut}
-use Rattle.residual.specs.Inner.{Sized, Coefs, Served}
-use Rattle.itx_1d.specs.Calls as Passes
-use Rattle.itx.specs.Calls.{Block, Call, Outcome, plain, live, with-adst, short, live-rows, verdict, outcome-of}
-use Rattle.itx.specs.declared.Hint.{Hint}
-use Rattle.itx.specs.declared.Hint.the-variants.{Eob, LiveRows}
+use mathlib.Core.List.{List}
+use Prim.Native.Nat.{ℕ}
+use lib.IntN.{ℤ}
+use Rattle.strided.specs.Planes.{Plane}
+use Rattle.whole.specs.Answers as Whole
+use Rattle.itx.specs.Calls.{Block}
 use Rattle.itx.specs.declared.Answer.{Answer}
 use Rattle.itx.specs.declared.Answer.the-variants.{Done, Refused}
 use Rattle.itx.specs.declared.Refusal.{Refusal}
-use Rattle.itx.specs.declared.Refusal.the-variants.{NoSize, NoType, NoDepth, NegativeEob, NoSuchRows, FewCoefficients, NotVisible, BadStride, RowOutside, OutOfRange, Stray, AboveMaximum}
-use Rattle.itx.specs.declared.Verdict.{Verdict}
-use Rattle.itx.specs.declared.Verdict.the-variants.{Go, At, Stop}
+use Rattle.itx.specs.declared.Refusal.the-variants.{NoSize, NoType, NoDepth, NegativeEob, NoSuchRows, FewCoefficients, NotVisible}
+use Rattle.itx.specs.declared.Refusal.the-variants.{BadStride, RowOutside, OutOfRange, Stray, AboveMaximum}
 
--- the table of "Numbers of refusal"
+-- the table of "Numbers of refusal": the number, and the place: "9 and 10 carry the place of the first offender .. others carry 0"; so does
+-- 21 (E6)
+abbrev pub listed : Refusal → ℕ × ℕ
+listed NoSize = (1, 0)
+listed NoType = (2, 0)
+listed NoDepth = (3, 0)
+listed NegativeEob = (4, 0)
+listed NoSuchRows = (5, 0)
+listed FewCoefficients = (6, 0)
+listed NotVisible = (20, 0)
+listed BadStride = (7, 0)
+listed RowOutside = (8, 0)
+listed (OutOfRange i) = (9, i)
+listed (Stray i) = (10, i)
+listed (AboveMaximum i) = (21, i)
+
 abbrev pub number : Refusal → ℕ
-number NoSize = 1
-number NoType = 2
-number NoDepth = 3
-number NegativeEob = 4
-number NoSuchRows = 5
-number FewCoefficients = 6
-number NotVisible = 20
-number BadStride = 7
-number RowOutside = 8
-number (OutOfRange i) = 9
-number (Stray i) = 10
-number (AboveMaximum i) = 21
+number r = listed r .0
 
--- "9 and 10 carry the place of the first offender .. others carry 0"; so does 21 (E6)
 abbrev pub place : Refusal → ℕ
-place NoSize = 0
-place NoType = 0
-place NoDepth = 0
-place NegativeEob = 0
-place NoSuchRows = 0
-place FewCoefficients = 0
-place NotVisible = 0
-place BadStride = 0
-place RowOutside = 0
-place (OutOfRange i) = i
-place (Stray i) = i
-place (AboveMaximum i) = i
+place r = listed r .1
 
-abbrev pub answer-of : Answer → Passes.Answer
-answer-of (Done mark) = Passes.acceptance mark
-answer-of (Refused r) = Passes.refusal (number r) (place r)
-
--- which call announces so much
-abbrev pub call-of : Hint → Call
-call-of (Eob eob) = plain eob
-call-of (LiveRows r) = live r
-
--- ---- the checks on the way
-
-abbrev pub verdict-of : Verdict → Check (Plan × Depth)
-verdict-of (Go p d) = accept (p, d)
-verdict-of (At p d s) = accept (p, d)
-verdict-of (Stop r) = refuse (number r) (place r)
-
--- what a check may take for granted of what it is handed: before the plane was looked at ..
-abbrev pub Asked : Verdict → Type 0
-Asked (Go p d) = (p .w ≤ 32) × (p .h ≤ 32)
-Asked (At p d s) = ⊥
-Asked (Stop r) = Unit {0}
-
--- .. and afterwards, of a plan, a depth and a place
-abbrev pub Placed : (Plan → Depth → Spot → Type 0) → Verdict → Type 0
-Placed F (Go p d) = ⊥
-Placed F (At p d s) = F p d s
-Placed F (Stop r) = Unit {0}
-
--- the place is the one asked for
-abbrev pub Lies : Spot → Verdict → Type 0
-Lies t = Placed (λ p d s. s ≡ t)
-
-abbrev pub Enough : ℕ → Verdict → Type 0
-Enough count = Placed (λ p d s. p .w * p .h ≤ count)
-
-abbrev pub RowsIn : Call → Verdict → Type 0
-RowsIn call = Placed (λ p d s. live-rows call p ≤ p .h)
-
-abbrev pub Looks : ℕ → Verdict → Type 0
-Looks size = Placed (λ p d s. Looking s (p .w) size)
-
--- a later check hands on what it was given, or stops
-abbrev pub Handed : Verdict → Verdict → Type 0
-Handed before = Placed (λ p d s. before ≡ At p d s)
+abbrev pub answer-of : Answer → Whole.Answer
+answer-of (Done mark) = Whole.acceptance mark
+answer-of (Refused r) = Whole.refusal (number r) (place r)
 
 -- ---- the block that a call is given
 
 abbrev pub block : ℕ → ℕ → ℕ → ℕ → List ℤ → Plane → Block
 block w h type depth coefs plane = record { w = w; h = h; type = type; depth = depth; coefs = coefs; plane = plane }
-
--- what the ways ask
-pub record Ready (p : Plan) (s : Spot) (ps : List ℕ) (c : List ℤ) : Type 0 where
-  pub sized : Sized p
-  pub coefs : Coefs p c
-  pub columns-in : s .columns ≤ p .w
-  pub rows-in : s .rows ≤ p .h
-  pub inside : spot-outside (length ps) s ≡ false
-
--- how many rows the long way may pass over: a live-row call's, and of a plain call as many as cover what is nonzero (demand 3)
-abbrev pub Suits : Call → Plan → List ℤ → ℕ → Type 0
-Suits (plain eob) p c r = (r ≤ p .h) × Covers (p .w) (p .h) c r
-Suits (live n) p c r = r ≡ n
-
--- of a narrow block: t holds the coefficients as the passes read them ..
-pub record Widened (p : Plan) (c t : List ℤ) : Type 0 where
-  pub room : p .w * p .h ≤ length t
-  pub alike : Alike (p .w * p .h) c t
-
--- .. unless the shortcut is due
-abbrev pub Copied : Call → List ℤ → List ℤ → Verdict → Type 0
-Copied call c t = Placed (λ p d s. short call p ≡ false → Widened p c t)
-
--- there is room for them, if a plan was made
-pub record Roomy (c : Check Plan) (n : ℕ) : Type 0 where
-  pub room : (p : Plan) → c ≡ accept p → p .w * p .h ≤ n
-
--- what they leave: pixels ps and coefficients c become ps′ and c′
-abbrev pub added : Depth → Spot → List ℕ → (ℕ → ℕ → ℤ) → List ℕ
-added d s ps v = add-rows (maximum d) ps (begins s) v (s .columns) (s .rows)
-
-pub record Passed (e : Engine) (p : Plan) (d : Depth) (s : Spot) (r : ℕ) (ps : List ℕ) (c : List ℤ) (mark : Bool) (ps′ : List ℕ) (c′ : List ℤ) : Type 0 where
-  pub mark-is : mark ≡ marked (way-by e p d) c r
-  pub pixels-are : ps′ ≡ added d s ps (residual (way-by e p d) c r)
-  pub coefs-are : c′ ≡ replicate (p .w * p .h) (pos 0) ++ drop (p .w * p .h) c
-
-pub record Shortened (p : Plan) (d : Depth) (s : Spot) (ps : List ℕ) (c : List ℤ) (ps′ : List ℕ) (c′ : List ℤ) : Type 0 where
-  pub pixels-are : ps′ ≡ added d s ps (λ y x. shortcut p (at c 0))
-  pub coefs-are : c′ ≡ set c 0 (pos 0)
-
--- ---- the two engines
-
--- what a call leaves by an engine
-abbrev pub left : Engine → Call → Block → Outcome
-left e call b = outcome-of (way-by e) call b (verdict call b)
-
--- a plan was made, and it has an ADST
-abbrev pub adst-planned : Check Plan → Bool
-adst-planned (accept p) = with-adst p
-adst-planned (refuse n i) = false
-
--- what the calls ask of an engine: that it has the kinds of the plan, if one was made
-pub record Allowed (e : Engine) (c : Check Plan) : Type 0 where
-  pub served : (p : Plan) → c ≡ accept p → Served e p

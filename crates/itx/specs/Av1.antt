@@ -4,18 +4,14 @@ use Prim.Native.Nat.{ℕ, _+_, _-_, _*_, _^_, max}
 use lib.Dec.{eqb}
 use lib.IntN.{ℤ, pos, _*ℤ_}
 use Rattle.whole.specs.Numbers.{_>>_, round2, clip, low, high}
-use Rattle.av1.specs.Sides.{side}
+use Rattle.levels.specs.Sides.{side}
 use Rattle.itx_1d.specs.Passes.{av1-pass}
 use Rattle.bitdepth.specs.declared.Depth.{Depth}
-use Rattle.bitdepth.specs.declared.Depth.the-variants.{Eight, Ten, Twelve}
+use Rattle.bitdepth.specs.Depths.{bit-depth}
 use Rattle.levels.specs.declared.Plan.{Plan}
-use Rattle.residual.specs.Blocks.{Way, if-wht}
+use Rattle.residual.specs.Blocks.{Way}
+use Rattle.levels.specs.Manners.{if-wht}
 use Rattle.itx.specs.Calls.{Block, Outcome, by-passes}
-
-abbrev pub bit-depth : Depth → ℕ
-bit-depth Eight = 8
-bit-depth Ten = 10
-bit-depth Twelve = 12
 
 -- held to this many bits
 abbrev pub held : ℕ → ℤ → ℤ

@@ -11,8 +11,8 @@ use lib.Signed.{nonNeg}
 use Rattle.whole.specs.Numbers.{outside, low, high}
 use Rattle.whole.specs.Lists.{at, first}
 use Rattle.whole.specs.Checks.{Check, accept, refuse, then, unless, Line, when, judged}
-use Rattle.itx_1d.specs.Manners.{is-dct, is-adst}
-use Rattle.itx_1d.specs.Calls.{Answer, refusal, acceptance}
+use Rattle.levels.specs.Manners.{is-dct, is-adst}
+use Rattle.whole.specs.Answers.{Answer, refusal, acceptance}
 use Rattle.bitdepth.specs.declared.Depth.{Depth}
 use Rattle.bitdepth.specs.Depths.{depth, row-range, maximum}
 use Rattle.levels.specs.declared.Plan.{Plan}

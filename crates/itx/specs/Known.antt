@@ -6,10 +6,11 @@ use Prim.Native.Nat.{ℕ, _*_, _-_}
 use lib.IntN.{ℤ, pos, negℤ}
 use lib.ListN.{replicate}
 use Rattle.whole.specs.Numbers.{low, high}
-use Rattle.av1.specs.Sides.{Side, of4, of8, of16}
-use Rattle.itx_1d.specs.declared.Kind.{Kind}
-use Rattle.itx_1d.specs.declared.Kind.the-variants.{Dct, Identity, Wht}
-use Rattle.itx_1d.specs.Manners.{is-wht}
+use Rattle.levels.specs.Sides.{Side, of4, of8, of16}
+use Rattle.levels.specs.declared.Kind.{Kind}
+use Rattle.levels.specs.declared.Kind.the-variants.{Dct, Identity, Wht}
+use Rattle.levels.specs.Manners.{is-wht}
+use Rattle.whole.specs.Answers as Answers
 use Rattle.itx_1d.specs.Calls as Passes
 use Rattle.strided.specs.Planes.{lent, whole}
 use Rattle.itx.specs.Calls.{plain, Outcome, outcome}
@@ -29,11 +30,11 @@ each n v = replicate n v
 
 -- what a pass or a block comes to
 pub data Result : Type 0 where
-  of-pass : Passes.Outcome → Result
+  of-pass : Answers.Outcome → Result
   of-block : Outcome → Result
 
 -- a public pass at stride 1, with the range of depth 8; the WHT takes no range
-abbrev pub passed : Kind → Side → List ℤ → Passes.Outcome
+abbrev pub passed : Kind → Side → List ℤ → Answers.Outcome
 passed kind n c = cond (is-wht kind) (Passes.unranged c 1) (Passes.ranged kind n c 1 (low 32768) (high 32768))
 
 -- a plain call at depth 8, with coefficients c, 0, 0, .., over the block's own pixels and no others, all 100
@@ -48,8 +49,8 @@ computed (adds w h type c eob ps) = of-block (added w h type c eob)
 
 -- what the case says: an acceptance, for a block with mark no and all coefficients 0
 abbrev pub expected : Case → Result
-expected (passes kind n xs ys mark) = of-pass (record { answer = Passes.acceptance mark; elements = ys })
-expected (adds w h type c eob ps) = of-block (record { answer = Passes.acceptance false; pixels = ps; coefs = zeros (w * h) })
+expected (passes kind n xs ys mark) = of-pass (record { answer = Answers.acceptance mark; elements = ys })
+expected (adds w h type c eob ps) = of-block (record { answer = Answers.acceptance false; pixels = ps; coefs = zeros (w * h) })
 
 abbrev pub holds : Case → Type 0
 holds c = computed c ≡ expected c

@@ -4,5 +4,7 @@ pub mod Av1
 pub mod Answers
 pub mod Demands
 pub mod Visible
+pub mod Widths
 pub mod Known
 pub mod Spec
+pub mod Inner

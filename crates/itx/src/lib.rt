@@ -10,16 +10,17 @@ ghost use Rattle.strided.specs.Planes.{spot, lent, lent-8};
 ghost use Rattle.bitdepth.specs.declared.Depth.the-variants.{Eight};
 ghost use Rattle.whole.specs.Checks.{then, judged};
 ghost use Rattle.levels.specs.Plans as Plans;
-ghost use Rattle.itx_1d.specs.Manners.{is-adst};
+ghost use Rattle.levels.specs.Manners.{is-adst};
 ghost use Rattle.residual.specs.Inner.{wht-plan, Served};
 ghost use Rattle.itx.specs.Spec as Spec;
 ghost use Rattle.itx.specs.Calls as Calls;
 ghost use Rattle.itx.specs.Answers as Answers;
-ghost use Rattle.itx.specs.Answers.{answer-of, call-of, verdict-of, Asked, Lies, Looks, Enough, RowsIn, Handed, block, Ready, Suits, Widened, Copied, Roomy, Passed, Shortened, left, Allowed, adst-planned};
+ghost use Rattle.itx.specs.Answers.{answer-of, block};
+ghost use Rattle.itx.specs.Inner.{call-of, verdict-of, Asked, Lies, Looks, Enough, RowsIn, Handed, Ready, Suits};
+ghost use Rattle.itx.specs.Inner.{Widened, Copied, Roomy, Passed, Shortened, left, Allowed, adst-planned};
 use bitdepth::Depth;
 use bitdepth::DepthCheck;
 use bitdepth::Range;
-use coefs::Found;
 use coefs::clear;
 use coefs::clear_8bpc;
 use coefs::first_outside;
@@ -27,8 +28,9 @@ use coefs::first_stray;
 use coefs::live_rows;
 use coefs::none_outside_8bpc;
 use coefs::widen;
-use itx_1d::Kind;
+use intops::Found;
 use levels::Decision;
+use levels::Kind;
 use levels::Plan;
 use pixels::add_block;
 use pixels::add_block_8bpc;
@@ -206,7 +208,8 @@ fn check_rows(before: Verdict, r: usize) -> Verdict
 // Numbers 4 and 5: each call has one.
 fn check_hint(before: Verdict, hint: Hint) -> Verdict
     requires { ⌜ Asked before ⌝ }
-    ensures { λ r. ⌜ (verdict-of r ≡ then (verdict-of before) (judged (Calls.eob-line (call-of hint) ∷ Calls.rows-line (call-of hint) ∷ []))) × Asked r ⌝ }
+    ensures { λ r. ⌜ (verdict-of r ≡ then (verdict-of before)
+        (judged (Calls.eob-line (call-of hint) ∷ Calls.rows-line (call-of hint) ∷ []))) × Asked r ⌝ }
 {
     match hint {
         Hint::Eob(eob) => check_eob(before, eob),
@@ -233,7 +236,8 @@ fn check_count(before: Verdict, count: usize) -> Verdict
 // Numbers 20, 7 and 8.
 fn check_plane(before: Verdict, width: Width, size: usize, view: View) -> Verdict
     requires { ⌜ Asked before ⌝ }
-    ensures { λ r. ⌜ (verdict-of r ≡ then (verdict-of before) (judged (Calls.plane-lines width size view))) × Lies (spot width view) r × Looks size r ⌝ }
+    ensures { λ r. ⌜ (verdict-of r ≡ then (verdict-of before) (judged (Calls.plane-lines width size view)))
+        × Lies (spot width view) r × Looks size r ⌝ }
 {
     let Verdict::Go(plan, depth) = before else {
         return before;
@@ -279,7 +283,9 @@ fn check_lengths(
     txtp: usize,
     depth: usize,
 ) -> Verdict
-    ensures { λ r. ⌜ (verdict-of r ≡ then (then (Plans.plan w h txtp) (Calls.with-depth depth)) (judged (Calls.lengths-lines (call-of hint) count width size view))) × Lies (spot width view) r × Looks size r × Enough count r × RowsIn (call-of hint) r ⌝ }
+    ensures { λ r. ⌜ (verdict-of r ≡ then (then (Plans.plan w h txtp) (Calls.with-depth depth))
+        (judged (Calls.lengths-lines (call-of hint) count width size view))) × Lies (spot width view) r × Looks size r
+        × Enough count r × RowsIn (call-of hint) r ⌝ }
 {
     let kind = check_kind(w, h, txtp, depth);
     let known = check_hint(kind, hint);
@@ -290,7 +296,8 @@ fn check_lengths(
 // Number 10, which the live-row call has.
 fn check_stray(before: Verdict, coeff: &[i32], hint: Hint) -> Verdict
     requires { ⌜ Enough (length (now coeff)) before × RowsIn (call-of hint) before ⌝ }
-    ensures { λ v. ⌜ (verdict-of v ≡ then (verdict-of before) (judged (Calls.stray-line (call-of hint) (now (coeff .entry)) ∷ []))) × Handed before v ⌝ }
+    ensures { λ v. ⌜ (verdict-of v ≡ then (verdict-of before)
+        (judged (Calls.stray-line (call-of hint) (now (coeff .entry)) ∷ []))) × Handed before v ⌝ }
 {
     let Hint::LiveRows(r) = hint else {
         return before;
@@ -310,7 +317,8 @@ fn check_stray(before: Verdict, coeff: &[i32], hint: Hint) -> Verdict
 // Number 21.
 fn check_pixels(before: Verdict, dst: &[u16]) -> Verdict
     requires { ⌜ Looks (length (now dst)) before ⌝ }
-    ensures { λ r. ⌜ ((s : Spot) → Lies s before → verdict-of r ≡ then (verdict-of before) (judged (Calls.pixel-line (now (dst .entry)) s ∷ []))) × Handed before r ⌝ }
+    ensures { λ r. ⌜ ((s : Spot) → Lies s before
+        → verdict-of r ≡ then (verdict-of before) (judged (Calls.pixel-line (now (dst .entry)) s ∷ []))) × Handed before r ⌝ }
 {
     let Verdict::At(plan, depth, spot) = before else {
         return before;
@@ -327,7 +335,8 @@ fn check_pixels(before: Verdict, dst: &[u16]) -> Verdict
 // The long way of WHT_WHT, whose sixteen numbers ask for no larger block.
 fn by_wht(dst: &mut [u16], spot: Spot, coeff: &mut [i32], depth: Depth, r: usize)
     requires { ⌜ Ready (wht-plan 0) spot (now dst) (now coeff) × (r ≤ 4) ⌝ }
-    ensures { λ _. ⌜ ((shift : ℕ) → Passed Engine.First (wht-plan shift) depth spot r (now (dst .entry)) (now (coeff .entry)) false (now (dst .exit)) (now (coeff .exit))) ⌝ }
+    ensures { λ _. ⌜ ((shift : ℕ) → Passed Engine.First (wht-plan shift) depth spot r (now (dst .entry))
+        (now (coeff .entry)) false (now (dst .exit)) (now (coeff .exit))) ⌝ }
 {
     let top = depth.maximum();
     let mut t = [0i32; 16];
@@ -370,7 +379,8 @@ fn by_passes(
 // The same on a narrow block (E2); c holds the coefficients as the passes read them.
 fn by_wht_8bpc(dst: &mut [u8], spot: Spot, coeff: &mut [i16], c: &[i32], r: usize)
     requires { ⌜ Ready (wht-plan 0) spot (now dst) (now coeff) × (r ≤ 4) × Widened (wht-plan 0) (now coeff) (now c) ⌝ }
-    ensures { λ _. ⌜ ((shift : ℕ) → Passed Engine.First (wht-plan shift) Eight spot r (now (dst .entry)) (now (coeff .entry)) false (now (dst .exit)) (now (coeff .exit))) ⌝ }
+    ensures { λ _. ⌜ ((shift : ℕ) → Passed Engine.First (wht-plan shift) Eight spot r (now (dst .entry))
+        (now (coeff .entry)) false (now (dst .exit)) (now (coeff .exit))) ⌝ }
 {
     let mut t = [0i32; 16];
     resolve_wht(&mut t, c, r);
@@ -447,7 +457,8 @@ fn check(
     txtp: usize,
     depth: usize,
 ) -> Verdict
-    ensures { λ r. ⌜ (verdict-of r ≡ Calls.verdict (call-of hint) (block w h txtp depth (now (coeff .entry)) (lent (now (dst .entry)) view))) × Lies (spot Wide view) r ⌝ }
+    ensures { λ r. ⌜ (verdict-of r ≡ Calls.verdict (call-of hint)
+        (block w h txtp depth (now (coeff .entry)) (lent (now (dst .entry)) view))) × Lies (spot Wide view) r ⌝ }
 {
     let size = dst.len();
     let count = coeff.len();
@@ -492,7 +503,9 @@ fn transform(
     depth: usize,
 ) -> Answer
     requires { ⌜ Allowed engine (Plans.plan w h txtp) ⌝ }
-    ensures { λ r. ⌜ Calls.Meets (left engine (call-of hint) (block w h txtp depth (now (coeff .entry)) (lent (now (dst .entry)) view))) (answer-of r) (now (dst .exit)) (now (coeff .exit)) ⌝ }
+    ensures { λ r. ⌜ Calls.Meets
+        (left engine (call-of hint) (block w h txtp depth (now (coeff .entry)) (lent (now (dst .entry)) view)))
+        (answer-of r) (now (dst .exit)) (now (coeff .exit)) ⌝ }
 {
     let checked = check(hint, &*dst, view, &*coeff, w, h, txtp, depth);
     match checked {
@@ -523,10 +536,13 @@ fn check_range_8bpc(before: Verdict, coeff: &[i16]) -> Verdict
     before
 }
 
-// Number 10 on a narrow block. For the long way c gets the coefficients at the width that the search and the passes read; the shortcut takes the first as it is.
+// Number 10 on a narrow block. For the long way c gets the coefficients at the width that the search and the passes read; the shortcut
+// takes the first as it is.
 fn check_stray_8bpc(before: Verdict, c: &mut [i32], coeff: &[i16], hint: Hint) -> Verdict
     requires { ⌜ Enough (length (now coeff)) before × Enough (length (now c)) before × RowsIn (call-of hint) before ⌝ }
-    ensures { λ v. ⌜ (verdict-of v ≡ then (verdict-of before) (judged (Calls.stray-line (call-of hint) (now (coeff .entry)) ∷ []))) × Handed before v × Copied (call-of hint) (now (coeff .entry)) (now (c .exit)) v ⌝ }
+    ensures { λ v. ⌜ (verdict-of v ≡ then (verdict-of before)
+        (judged (Calls.stray-line (call-of hint) (now (coeff .entry)) ∷ []))) × Handed before v
+        × Copied (call-of hint) (now (coeff .entry)) (now (c .exit)) v ⌝ }
 {
     let Verdict::At(plan, _, _) = before else {
         return before;
@@ -550,7 +566,9 @@ fn transform_in(
     txtp: usize,
 ) -> Answer
     requires { ⌜ Roomy (Plans.plan w h txtp) (length (now c)) ⌝ }
-    ensures { λ r. ⌜ Calls.Meets (Calls.outcome (call-of hint) (block w h txtp 8 (now (coeff .entry)) (lent-8 (now (dst .entry)) view))) (answer-of r) (now (dst .exit)) (now (coeff .exit)) ⌝ }
+    ensures { λ r. ⌜ Calls.Meets
+        (Calls.outcome (call-of hint) (block w h txtp 8 (now (coeff .entry)) (lent-8 (now (dst .entry)) view)))
+        (answer-of r) (now (dst .exit)) (now (coeff .exit)) ⌝ }
 {
     let size = dst.len();
     let count = coeff.len();
@@ -583,7 +601,9 @@ fn transform_8bpc(
     h: usize,
     txtp: usize,
 ) -> Answer
-    ensures { λ r. ⌜ Calls.Meets (Calls.outcome (call-of hint) (block w h txtp 8 (now (coeff .entry)) (lent-8 (now (dst .entry)) view))) (answer-of r) (now (dst .exit)) (now (coeff .exit)) ⌝ }
+    ensures { λ r. ⌜ Calls.Meets
+        (Calls.outcome (call-of hint) (block w h txtp 8 (now (coeff .entry)) (lent-8 (now (dst .entry)) view)))
+        (answer-of r) (now (dst .exit)) (now (coeff .exit)) ⌝ }
 {
     if (w <= 4) & (h <= 4) {
         let mut c = [0i32; 16];
@@ -608,7 +628,9 @@ pub fn inv_txfm_add(
     txtp: usize,
     depth: usize,
 ) -> Answer
-    ensures { λ r. ⌜ Calls.Meets (Calls.outcome (Calls.plain eob) (block w h txtp depth (now (coeff .entry)) (lent (now (dst .entry)) view))) (answer-of r) (now (dst .exit)) (now (coeff .exit)) ⌝ }
+    ensures { λ r. ⌜ Calls.Meets
+        (Calls.outcome (Calls.plain eob) (block w h txtp depth (now (coeff .entry)) (lent (now (dst .entry)) view)))
+        (answer-of r) (now (dst .exit)) (now (coeff .exit)) ⌝ }
 {
     let hint = Hint::Eob(eob);
     transform(Engine::First, hint, dst, view, coeff, w, h, txtp, depth)
@@ -625,7 +647,9 @@ pub fn inv_txfm_add_live(
     txtp: usize,
     depth: usize,
 ) -> Answer
-    ensures { λ a. ⌜ Calls.Meets (Calls.outcome (Calls.live r) (block w h txtp depth (now (coeff .entry)) (lent (now (dst .entry)) view))) (answer-of a) (now (dst .exit)) (now (coeff .exit)) ⌝ }
+    ensures { λ a. ⌜ Calls.Meets
+        (Calls.outcome (Calls.live r) (block w h txtp depth (now (coeff .entry)) (lent (now (dst .entry)) view)))
+        (answer-of a) (now (dst .exit)) (now (coeff .exit)) ⌝ }
 {
     let hint = Hint::LiveRows(r);
     transform(Engine::First, hint, dst, view, coeff, w, h, txtp, depth)
@@ -641,7 +665,9 @@ pub fn inv_txfm_add_8bpc(
     h: usize,
     txtp: usize,
 ) -> Answer
-    ensures { λ r. ⌜ Calls.Meets (Calls.outcome (Calls.plain eob) (block w h txtp 8 (now (coeff .entry)) (lent-8 (now (dst .entry)) view))) (answer-of r) (now (dst .exit)) (now (coeff .exit)) ⌝ }
+    ensures { λ r. ⌜ Calls.Meets
+        (Calls.outcome (Calls.plain eob) (block w h txtp 8 (now (coeff .entry)) (lent-8 (now (dst .entry)) view)))
+        (answer-of r) (now (dst .exit)) (now (coeff .exit)) ⌝ }
 {
     transform_8bpc(Hint::Eob(eob), dst, view, coeff, w, h, txtp)
 }
@@ -656,7 +682,9 @@ pub fn inv_txfm_add_live_8bpc(
     h: usize,
     txtp: usize,
 ) -> Answer
-    ensures { λ a. ⌜ Calls.Meets (Calls.outcome (Calls.live r) (block w h txtp 8 (now (coeff .entry)) (lent-8 (now (dst .entry)) view))) (answer-of a) (now (dst .exit)) (now (coeff .exit)) ⌝ }
+    ensures { λ a. ⌜ Calls.Meets
+        (Calls.outcome (Calls.live r) (block w h txtp 8 (now (coeff .entry)) (lent-8 (now (dst .entry)) view)))
+        (answer-of a) (now (dst .exit)) (now (coeff .exit)) ⌝ }
 {
     transform_8bpc(Hint::LiveRows(r), dst, view, coeff, w, h, txtp)
 }
@@ -700,7 +728,9 @@ pub fn spec_inv_txfm_add(
     txtp: usize,
     depth: usize,
 ) -> Answer
-    ensures { λ r. ⌜ Calls.Meets (Spec.spec-outcome (Calls.plain eob) (block w h txtp depth (now (coeff .entry)) (lent (now (dst .entry)) view))) (answer-of r) (now (dst .exit)) (now (coeff .exit)) ⌝ }
+    ensures { λ r. ⌜ Calls.Meets
+        (Spec.spec-outcome (Calls.plain eob) (block w h txtp depth (now (coeff .entry)) (lent (now (dst .entry)) view)))
+        (answer-of r) (now (dst .exit)) (now (coeff .exit)) ⌝ }
 {
     if has_adst(w, h, txtp) {
         return Answer::Refused(Refusal::NoType);
@@ -720,7 +750,9 @@ pub fn spec_inv_txfm_add_live(
     txtp: usize,
     depth: usize,
 ) -> Answer
-    ensures { λ a. ⌜ Calls.Meets (Spec.spec-outcome (Calls.live r) (block w h txtp depth (now (coeff .entry)) (lent (now (dst .entry)) view))) (answer-of a) (now (dst .exit)) (now (coeff .exit)) ⌝ }
+    ensures { λ a. ⌜ Calls.Meets
+        (Spec.spec-outcome (Calls.live r) (block w h txtp depth (now (coeff .entry)) (lent (now (dst .entry)) view)))
+        (answer-of a) (now (dst .exit)) (now (coeff .exit)) ⌝ }
 {
     if has_adst(w, h, txtp) {
         return Answer::Refused(Refusal::NoType);

@@ -20,13 +20,14 @@ use Rattle.whole.specs.Checks.{accept, unless, unless-at}
 use Rattle.whole.proofs.Clips.{inside-abs}
 use Rattle.whole.proofs.Counts.{first-none}
 use Rattle.whole.proofs.Held.{from2, same-is}
-use Rattle.av1.specs.Sides.{Side, len, side}
-use Rattle.itx_1d.specs.declared.Kind.{Kind}
-use Rattle.itx_1d.specs.declared.Kind.the-variants.{Wht}
+use Rattle.levels.specs.Sides.{len, side}
+use Rattle.levels.specs.declared.Kind.{Kind}
+use Rattle.levels.specs.declared.Kind.the-variants.{Wht}
 use Rattle.itx_1d.specs.declared.Pass.{Pass}
-use Rattle.itx_1d.specs.declared.Pass.the-variants.{Done, Range, Stride, Short, Element}
+use Rattle.itx_1d.specs.declared.Pass.the-variants.{Done}
 use Rattle.itx_1d.specs.Passes.{Passed, pass}
-use Rattle.itx_1d.specs.Calls.{Outcome, acceptance, taken, put, outcome-of, is-range, bad-range, accepted, ranged, halved, Meets}
+use Rattle.whole.specs.Answers.{Outcome, acceptance, outcome-of}
+use Rattle.itx_1d.specs.Calls.{taken, put, is-range, bad-range, accepted, ranged, halved, Meets}
 use Rattle.itx_1d.specs.Inner.{after, range-check, place-check, element-check, Seen, Ranged, PassIs, looked, dct-reading, called}
 use Rattle.itx_1d.proofs.Pass.{the-type}
 use Rattle.itx_1d.proofs.Checks.{is-done, refuse}
@@ -55,7 +56,8 @@ good false false false none e = record { range = refl; stride = refl; short = re
 pub accepted-is : {t u v : Bool} {o : Option ℕ} (c : List ℤ) (out : Outcome) → Good t u v o → defined t u v o c out ≡ out
 accepted-is c out g = λ i. defined (g .range i) (g .stride i) (g .short i) (g .elements i) c out
 
-pub refused-is : (t u v : Bool) (o : Option ℕ) (c : List ℤ) (out : Outcome) → OneOf (1 ∷ 2 ∷ 3 ∷ 4 ∷ []) (tagOf the-type (verdict t u v o)) → Meets (defined t u v o c out) (verdict t u v o) c
+pub refused-is : (t u v : Bool) (o : Option ℕ) (c : List ℤ) (out : Outcome)
+    → OneOf (1 ∷ 2 ∷ 3 ∷ 4 ∷ []) (tagOf the-type (verdict t u v o)) → Meets (defined t u v o c out) (verdict t u v o) c
 refused-is true u v o c out h = record { answer = refl; elements = refl }
 refused-is false true v o c out h = record { answer = refl; elements = refl }
 refused-is false false true o c out h = record { answer = refl; elements = refl }
@@ -67,14 +69,14 @@ refused-is false false false none c out h = absurd (miss (1 ∷ 2 ∷ 3 ∷ 4 �
 pub seen : {t : Bool} (c : List ℤ) (s n looked : ℕ) (lo hi : ℤ) {k : ℕ} → len (side n) ≡ n → natAbs lo ≤ k → natAbs hi ≤ k
     → Good t (eqb s 0) (leb (length c) ((n - 1) * s)) (first looked (λ i. outside (at c (i * s)) lo hi)) → Seen c s n looked k
 seen c s n looked lo hi e l h g =
-    let nonzero = eqb-false s 0 (g .stride) in
-    record {
+    let nonzero = eqb-false s 0 (g .stride) in record {
       reaches = record { is-length = e; some-stride = omega arith; inside = in-reach c n s (g .short) };
       small = λ j b. inside-abs (at c (j * s)) lo hi (first-none looked (λ i. outside (at c (i * s)) lo hi) (g .elements) j b) l h;
     }
 
 -- what holds of the three ranges holds of a range that is not bad
-of-ranges : (P : ℤ → ℤ → Type 0) → P (low 32768) (high 32768) → P (low 131072) (high 131072) → P (low 524288) (high 524288) → (lo hi : ℤ) → bad-range lo hi ≡ false → P lo hi
+of-ranges : (P : ℤ → ℤ → Type 0) → P (low 32768) (high 32768) → P (low 131072) (high 131072) → P (low 524288) (high 524288)
+    → (lo hi : ℤ) → bad-range lo hi ≡ false → P lo hi
 of-ranges P a b c lo hi e = go (is-range lo hi 32768) (is-range lo hi 131072) (is-range lo hi 524288) refl refl refl e
   where
     is : (m : ℕ) → is-range lo hi m ≡ true → P (low m) (high m) → P lo hi
@@ -99,7 +101,8 @@ unfolding outside
 zero-inside = of-ranges (λ lo hi. outside (pos 0) lo hi ≡ false) refl refl refl
 
 -- a caller's range, as a callee reads it
-pub plain : (f : ℤ → ℤ → Outcome) {d : List ℤ} {lo hi : ℤ} {r : Pass} → SFits w32 lo → SFits w32 hi → Meets (f (toZ w32 (ofZ w32 lo)) (toZ w32 (ofZ w32 hi))) r d → Meets (f lo hi) r d
+pub plain : (f : ℤ → ℤ → Outcome) {d : List ℤ} {lo hi : ℤ} {r : Pass} → SFits w32 lo → SFits w32 hi
+    → Meets (f (toZ w32 (ofZ w32 lo)) (toZ w32 (ofZ w32 hi))) r d → Meets (f lo hi) r d
 plain f {d} {r = r} p q m = from2 (λ lo hi. Meets (f lo hi) r d) p q m
 
 -- ---- the definitions, with the length as the code has it
@@ -111,12 +114,16 @@ passed false kind n lo = pass kind (side n) (natAbs lo)
 
 pub called-is : (tx64 : Bool) (kind : Kind) (n : ℕ) (c : List ℤ) (s : ℕ) (lo hi : ℤ) → len (side n) ≡ n
     → called tx64 kind (side n) c s lo hi
-    ≡ defined (bad-range lo hi) (eqb s 0) (leb (length c) ((n - 1) * s)) (first (looked tx64 n) (λ i. outside (at c (i * s)) lo hi)) c (accepted (passed tx64 kind n lo) (side n) s c)
+    ≡ defined (bad-range lo hi) (eqb s 0) (leb (length c) ((n - 1) * s))
+    (first (looked tx64 n) (λ i. outside (at c (i * s)) lo hi)) c (accepted (passed tx64 kind n lo) (side n) s c)
 unfolding ranged halved
-called-is true kind n c s lo hi e = λ i. defined (bad-range lo hi) (eqb s 0) (leb (length c) ((e i - 1) * s)) (first (e i / 2) (λ j. outside (at c (j * s)) lo hi)) c (accepted (passed true kind n lo) (side n) s c)
-called-is false kind n c s lo hi e = λ i. defined (bad-range lo hi) (eqb s 0) (leb (length c) ((e i - 1) * s)) (first (e i) (λ j. outside (at c (j * s)) lo hi)) c (accepted (passed false kind n lo) (side n) s c)
+called-is true kind n c s lo hi e = λ i. defined (bad-range lo hi) (eqb s 0) (leb (length c) ((e i - 1) * s))
+    (first (e i / 2) (λ j. outside (at c (j * s)) lo hi)) c (accepted (passed true kind n lo) (side n) s c)
+called-is false kind n c s lo hi e = λ i. defined (bad-range lo hi) (eqb s 0) (leb (length c) ((e i - 1) * s))
+    (first (e i) (λ j. outside (at c (j * s)) lo hi)) c (accepted (passed false kind n lo) (side n) s c)
 
-pub done : (f : List ℤ → Passed) (n s : ℕ) (c : List ℤ) {d : List ℤ} {r : Bool} → len (side n) ≡ n → d ≡ put c s (f (taken c s n) .values) n → r ≡ f (taken c s n) .mark → Meets (accepted f (side n) s c) (Done r) d
+pub done : (f : List ℤ → Passed) (n s : ℕ) (c : List ℤ) {d : List ℤ} {r : Bool} → len (side n) ≡ n
+    → d ≡ put c s (f (taken c s n) .values) n → r ≡ f (taken c s n) .mark → Meets (accepted f (side n) s c) (Done r) d
 done f n s c e p q = record {
   answer = ap acceptance q ∙ (λ i. acceptance (f (taken c s (sym e i)) .mark));
   elements = p ∙ (λ i. put c s (f (taken c s (sym e i)) .values) (sym e i));

@@ -15,10 +15,11 @@ use lib.Seq.{ext-getD}
 use Rattle.whole.specs.Numbers.{outside}
 use Rattle.whole.specs.Lists.{at, tab, first}
 use Rattle.whole.proofs.Counts.{tab-ext, tab-at, first-ext, first-upto, last-or-less}
-use Rattle.av1.specs.Sides.{Side, len, side}
-use Rattle.itx_1d.specs.declared.Kind.the-variants.{Dct}
+use Rattle.levels.specs.Sides.{Side, len}
+use Rattle.levels.specs.declared.Kind.the-variants.{Dct}
 use Rattle.itx_1d.specs.Passes.{Passed, pass, filled, lower}
-use Rattle.itx_1d.specs.Calls.{Outcome, acceptance, taken, put, bad-range, accepted, ranged, halved, refilled, leaving}
+use Rattle.whole.specs.Answers.{Outcome, acceptance}
+use Rattle.itx_1d.specs.Calls.{taken, put, bad-range, accepted, ranged, halved, refilled, leaving}
 use Rattle.itx_1d.proofs.Accepted.{defined, zero-inside}
 use Rattle.itx_1d.proofs.Strides.{in-reach, length-put, kept, put-at}
 
@@ -72,12 +73,14 @@ module _ (g : ℕ → ℤ) (n : Side) (xs : List ℤ) where
 
 -- ---- two calls that find the same to refuse, and if nothing, leave the same
 
-same-outcome : (t u v : Bool) (o o′ : Option ℕ) (c c′ : List ℤ) (out out′ : Outcome) → (t ≡ false → u ≡ false → v ≡ false → (o ≡ o′) × (out ≡ leaving c out′))
+same-outcome : (t u v : Bool) (o o′ : Option ℕ) (c c′ : List ℤ) (out out′ : Outcome)
+    → (t ≡ false → u ≡ false → v ≡ false → (o ≡ o′) × (out ≡ leaving c out′))
     → defined t u v o c out ≡ leaving c (defined t u v o′ c′ out′)
 same-outcome true u v o o′ c c′ out out′ h = refl
 same-outcome false true v o o′ c c′ out out′ h = refl
 same-outcome false false true o o′ c c′ out out′ h = refl
-same-outcome false false false o o′ c c′ out out′ h = let e = h refl refl refl in ap (λ (w : Option ℕ). defined false false false w c out) (e .0) ∙ go o′
+same-outcome false false false o o′ c c′ out out′ h = let e = h refl refl refl in
+    ap (λ (w : Option ℕ). defined false false false w c out) (e .0) ∙ go o′
   where
     go : (w : Option ℕ) → defined false false false w c out ≡ leaving c (defined false false false w c′ out′)
     go none = h refl refl refl .1
@@ -130,32 +133,37 @@ module _ (g : ℕ → ℤ) (n : Side) (c : List ℤ) (s : ℕ) (lo hi : ℤ) whe
 pub unread : (g : ℕ → ℤ) (n : Side) (c : List ℤ) (s : ℕ) (lo hi : ℤ) → let d = refilled g n c s in halved n d s lo hi ≡ leaving d (halved n c s lo hi)
 unfolding halved
 unread g n c s lo hi =
-    let d = refilled g n c s in
-    let f : List ℤ → Passed = λ xs. pass Dct n (natAbs lo) (lower n xs) in
+    let d = refilled g n c s in let f : List ℤ → Passed = λ xs. pass Dct n (natAbs lo) (lower n xs) in
     let out = accepted f n s in
     (λ i. defined (bad-range lo hi) (eqb s 0) (same-short g n c s lo hi i) (first (len n / 2) (wrong g n c s lo hi d)) d (out d))
     ∙ same-outcome (bad-range lo hi) (eqb s 0) (short g n c s lo hi c) _ _ d c (out d) (out c)
     (λ t far long. (
       same-wrong g n c s lo hi far long,
       (let same = ap (lower n) (new-is g n c s lo hi far long) ∙ lower-filled g n (taken c s (len n)) in
-          λ i. record { answer = acceptance (pass Dct n (natAbs lo) (same i) .mark); elements = ((λ j. put d s (pass Dct n (natAbs lo) (same j) .values) (len n)) ∙ new-put g n c s lo hi far long (f (taken c s (len n)) .values)) i }),
+          λ i. record {
+            answer = acceptance (pass Dct n (natAbs lo) (same i) .mark);
+            elements =
+                ((λ j. put d s (pass Dct n (natAbs lo) (same j) .values) (len n))
+                ∙ new-put g n c s lo hi far long (f (taken c s (len n)) .values)) i;
+          }),
     ))
 
 -- the full call on the list with zeros
 pub half-full : (n : Side) (c : List ℤ) (s : ℕ) (lo hi : ℤ) → halved n c s lo hi ≡ leaving c (ranged Dct n (refilled (λ i. pos 0) n c s) s lo hi)
 unfolding halved ranged
 half-full n c s lo hi =
-    let g : ℕ → ℤ = λ i. pos 0 in
-    let d = refilled g n c s in
-    let xs = taken c s (len n) in
-    let f : List ℤ → Passed = λ xs. pass Dct n (natAbs lo) (lower n xs) in
-    let full = accepted (pass Dct n (natAbs lo)) n s in
-    same-outcome (bad-range lo hi) (eqb s 0) (short g n c s lo hi c) (first (len n / 2) (wrong g n c s lo hi c)) (first (len n) (wrong g n c s lo hi d)) c d (accepted f n s c) (full d)
+    let g : ℕ → ℤ = λ i. pos 0 in let d = refilled g n c s in let xs = taken c s (len n) in
+    let f : List ℤ → Passed = λ xs. pass Dct n (natAbs lo) (lower n xs) in let full = accepted (pass Dct n (natAbs lo)) n s in
+    same-outcome (bad-range lo hi) (eqb s 0) (short g n c s lo hi c) (first (len n / 2) (wrong g n c s lo hi c))
+    (first (len n) (wrong g n c s lo hi d)) c d (accepted f n s c) (full d)
     (λ t far long. (
-      sym (same-wrong g n c s lo hi far long)
-          ∙ first-upto (len n / 2) (len n) (wrong g n c s lo hi d) (div-le-self (len n) 2)
+      sym (same-wrong g n c s lo hi far long) ∙ first-upto (len n / 2) (len n) (wrong g n c s lo hi d) (div-le-self (len n) 2)
           (λ i h l. ap (λ (z : ℤ). outside z lo hi) (new-at g n c s lo hi far long i l ∙ filled-high g n xs i h l) ∙ zero-inside lo hi t),
       (let same = sym (new-is g n c s lo hi far long) in
-          λ i. record { answer = acceptance (pass Dct n (natAbs lo) (same i) .mark); elements = (sym (new-put g n c s lo hi far long (f xs .values)) ∙ (λ j. put d s (pass Dct n (natAbs lo) (same j) .values) (len n))) i }),
-    ))
-    ∙ (let back = sym (same-short g n c s lo hi) in λ i. leaving c (defined (bad-range lo hi) (eqb s 0) (back i) (first (len n) (wrong g n c s lo hi d)) d (full d)))
+          λ i. record {
+            answer = acceptance (pass Dct n (natAbs lo) (same i) .mark);
+            elements =
+                (sym (new-put g n c s lo hi far long (f xs .values)) ∙ (λ j. put d s (pass Dct n (natAbs lo) (same j) .values) (len n))) i;
+          }),
+    )) ∙ (let back = sym (same-short g n c s lo hi) in
+    λ i. leaving c (defined (bad-range lo hi) (eqb s 0) (back i) (first (len n) (wrong g n c s lo hi d)) d (full d)))

@@ -1,5 +1,5 @@
 -- Laws of the passes.
-pub mod Manners
+pub mod Most
 pub mod PassLaws
 pub mod Strides
 pub mod Through

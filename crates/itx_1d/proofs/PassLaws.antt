@@ -9,23 +9,23 @@ use lib.IntN.{ℤ, pos, _+ℤ_, _*ℤ_, natAbs}
 use lib.ListN.{getD, length, replicate, length-set}
 use Rattle.whole.specs.Numbers.{_>>_, round2, outside, low, high}
 use Rattle.whole.specs.Lists.{at, tab}
-use Rattle.whole.proofs.Counts.{tab-ext, tab-length, replicate-tab, map-at, map-length, map-ext}
+use Rattle.whole.proofs.Counts.{tab-ext, replicate-tab, map-at, map-ext}
 use Rattle.whole.proofs.Floors.{floor-one}
 use Rattle.whole.proofs.Machine.{Within, E, var, lit, _⊕_, _⊝_, _⊛_, _≫_, bound}
 use Rattle.whole.proofs.Parts.{rep-self, rep-add, rep-mul}
 use Rattle.whole.proofs.Ranges.{zero-inside, range-abs, scaled, round-floor, scaled-inside, by-181}
-use Rattle.av1.specs.Sides.{Side, of4, of8, of16, of32, len, bits}
+use Rattle.levels.specs.Sides.{Side, of4, of8, of16, of32, len, bits}
 use Rattle.av1.specs.Network.{Alg, Step, B, H, step, run, brev, steps, permuted, dct}
 use Rattle.av1.specs.Values.{exact, clipped}
-use Rattle.av1.specs.Passes.{av1-identity, av1-wht, av1-adst4, turned}
+use Rattle.av1.specs.Passes.{av1-identity, av1-wht, av1-adst4, flipped}
 use Rattle.av1.proofs.Adst.{adst-zero, adst-small}
 use Rattle.av1.proofs.Known as Known
 use Rattle.av1.proofs.Unclipped.{unclipped}
-use Rattle.itx_1d.specs.Manners.{four-only}
+use Rattle.levels.specs.Manners.{four-only}
 use Rattle.itx_1d.specs.Passes.{Passed, identity, wht, pass, av1-pass}
 use Rattle.itx_1d.specs.Passes as Passes
-use Rattle.itx_1d.specs.declared.Kind.{Kind}
-use Rattle.itx_1d.specs.declared.Kind.the-variants.{Dct, Identity, Wht, Adst, FlipAdst}
+use Rattle.levels.specs.declared.Kind.{Kind}
+use Rattle.levels.specs.declared.Kind.the-variants.{Dct, Identity, Wht, Adst, FlipAdst}
 
 -- ---- one number first and nothing else
 
@@ -99,8 +99,8 @@ module _ (n : Side) (m : ℕ) where
   zero-pass Dct x = ap (λ (p : Passed). at (p .values) x) dct-zero ∙ zero-at (len n) x
   zero-pass Identity x = identity-at n (zeros (len n)) x ∙ ap (identity n) (zero-at (len n) x) ∙ identity-zero n
   zero-pass Wht x = four-zeros (len n) wht wht-zero x
-  zero-pass Adst x = four-zeros (len n) (λ a b c d. turned false (av1-adst4 a b c d)) (adst-zero false) x
-  zero-pass FlipAdst x = four-zeros (len n) (λ a b c d. turned true (av1-adst4 a b c d)) (adst-zero true) x
+  zero-pass Adst x = four-zeros (len n) (λ a b c d. flipped false (av1-adst4 a b c d)) (adst-zero false) x
+  zero-pass FlipAdst x = four-zeros (len n) (λ a b c d. flipped true (av1-adst4 a b c d)) (adst-zero true) x
 
   pub zero-unmarked : (k : Kind) → pass k n m (zeros (len n)) .mark ≡ false
   unfolding pass
@@ -115,21 +115,15 @@ module _ (n : Side) (m : ℕ) where
 identity-one : (n : Side) (v : ℤ) → identity n v ≡ av1-identity n v
 unfolding identity Rattle.av1.specs.Passes.av1-identity
 identity-one of4 v =
-    let q = round2 (v *ℤ pos 1697) 12 in
-    let f = round-floor (v *ℤ pos 1697) 11 in
-    let r = scaled v 1697 2048 in
-    let s = scaled v 5793 2048 in
-    let t = rep-add (rep-self v) (rep-self q) in
+    let q = round2 (v *ℤ pos 1697) 12 in let f = round-floor (v *ℤ pos 1697) 11 in let r = scaled v 1697 2048 in
+    let s = scaled v 5793 2048 in let t = rep-add (rep-self v) (rep-self q) in
     floor-one (v *ℤ pos 5793 +ℤ pos 2048) 4096 (v +ℤ q) (round2 (v *ℤ pos 5793) 12)
     (record { low = omega (arith, f .low, r .rep, s .rep, t .rep); high = omega (arith, f .high, r .rep, s .rep, t .rep) })
     (round-floor (v *ℤ pos 5793) 11)
 identity-one of8 v = refl
 identity-one of16 v =
-    let q = round2 (v *ℤ pos 1697) 11 in
-    let f = round-floor (v *ℤ pos 1697) 10 in
-    let r = scaled v 1697 1024 in
-    let s = scaled v 11586 2048 in
-    let t = rep-add (rep-mul (rep-self v) (rep-self (pos 2))) (rep-self q) in
+    let q = round2 (v *ℤ pos 1697) 11 in let f = round-floor (v *ℤ pos 1697) 10 in let r = scaled v 1697 1024 in
+    let s = scaled v 11586 2048 in let t = rep-add (rep-mul (rep-self v) (rep-self (pos 2))) (rep-self q) in
     floor-one (v *ℤ pos 11586 +ℤ pos 2048) 4096 (v *ℤ pos 2 +ℤ q) (round2 (v *ℤ pos 11586) 12)
     (record { low = omega (arith, f .low, r .rep, s .rep, t .rep); high = omega (arith, f .high, r .rep, s .rep, t .rep) })
     (round-floor (v *ℤ pos 11586) 11)
@@ -172,14 +166,12 @@ module _ {A : Type 0} (𝓐 : Alg A) where
   run-length [] xs = refl
   run-length (s ∷ ss) xs = run-length ss (step 𝓐 s xs) ∙ step-length s xs
 
-  dct-length : (n : Side) (xs : List A) → length (dct 𝓐 (bits n) xs) ≡ len n
-  dct-length n xs = run-length (steps (bits n)) (permuted 𝓐 (bits n) xs) ∙ tab-length (2 ^ bits n) (λ i. getD xs (brev (bits n) i) (𝓐 .none)) ∙ len-power n
-
 identity-small : (n : Side) (v : ℤ) (k : ℕ) → natAbs v ≤ k → natAbs (identity n v) ≤ 5 * k + 2
 unfolding identity round2 _>>_
 identity-small of4 v k h = le-trans (bound (v ∷ []) (k ∷ []) (h, tt) (var 0 ⊕ (var 0 ⊛ lit (pos 1697) ⊕ lit (pos 2048) ≫ 12))) (omega arith)
 identity-small of8 v k h = le-trans (bound (v ∷ []) (k ∷ []) (h, tt) (var 0 ⊛ lit (pos 2))) (omega arith)
-identity-small of16 v k h = le-trans (bound (v ∷ []) (k ∷ []) (h, tt) (var 0 ⊛ lit (pos 2) ⊕ (var 0 ⊛ lit (pos 1697) ⊕ lit (pos 1024) ≫ 11))) (omega arith)
+identity-small of16 v k h =
+    le-trans (bound (v ∷ []) (k ∷ []) (h, tt) (var 0 ⊛ lit (pos 2) ⊕ (var 0 ⊛ lit (pos 1697) ⊕ lit (pos 1024) ≫ 11))) (omega arith)
 identity-small of32 v k h = le-trans (bound (v ∷ []) (k ∷ []) (h, tt) (var 0 ⊛ lit (pos 4))) (omega arith)
 
 -- the WHT's steps and what it stores, of a, b, c, d
@@ -191,7 +183,8 @@ unfolding wht _>>_
 wht-small a b c d k h zero = le-trans (bound (a ∷ b ∷ c ∷ d ∷ []) (k ∷ k ∷ k ∷ k ∷ []) h (var 0 ⊕ var 1 ⊝ (t4 ⊝ var 3))) (omega arith)
 wht-small a b c d k h (suc zero) = le-trans (bound (a ∷ b ∷ c ∷ d ∷ []) (k ∷ k ∷ k ∷ k ∷ []) h (t4 ⊝ var 3)) (omega arith)
 wht-small a b c d k h (suc (suc zero)) = le-trans (bound (a ∷ b ∷ c ∷ d ∷ []) (k ∷ k ∷ k ∷ k ∷ []) h (t4 ⊝ var 1)) (omega arith)
-wht-small a b c d k h (suc (suc (suc zero))) = le-trans (bound (a ∷ b ∷ c ∷ d ∷ []) (k ∷ k ∷ k ∷ k ∷ []) h (var 2 ⊝ var 3 ⊕ (t4 ⊝ var 1))) (omega arith)
+wht-small a b c d k h (suc (suc (suc zero))) =
+    le-trans (bound (a ∷ b ∷ c ∷ d ∷ []) (k ∷ k ∷ k ∷ k ∷ []) h (var 2 ⊝ var 3 ⊕ (t4 ⊝ var 1))) (omega arith)
 wht-small a b c d k h (suc (suc (suc (suc i)))) = omega arith
 
 module _ (n : Side) (m : ℕ) (xs : List ℤ) where
@@ -214,11 +207,3 @@ module _ (n : Side) (m : ℕ) (xs : List ℤ) where
 
   abbrev pub left : Kind → ℕ
   left kind = cond (four-only kind) 4 (len n)
-
-  pub pass-length : (kind : Kind) → length xs ≡ len n → length (pass kind n m xs .values) ≡ left kind
-  unfolding pass wht Rattle.av1.specs.Passes.av1-adst4
-  pass-length Dct e = dct-length (clipped (low m) (high m)) n xs
-  pass-length Identity e = map-length (identity n) xs ∙ e
-  pass-length Wht e = refl
-  pass-length Adst e = refl
-  pass-length FlipAdst e = refl

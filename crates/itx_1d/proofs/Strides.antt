@@ -14,10 +14,10 @@ use borrow.Author.Tests.{leb-false, le-ltb, lt-ltb}
 use mir.Facts.{and-yes}
 use Rattle.whole.specs.Lists.{at, tab}
 use Rattle.whole.proofs.Counts.{tab-at, last-or-less}
-use Rattle.av1.specs.Sides.{Side, of4, of8, of16, of32, len, side}
+use Rattle.levels.specs.Sides.{Side, of4, of8, of16, of32, len, side}
 use Rattle.itx_1d.specs.Passes.{lower}
 use Rattle.itx_1d.specs.Calls.{put}
-use Rattle.itx_1d.specs.Inner.{revs, source, sources-below, read, looked}
+use Rattle.itx_1d.specs.Inner.{source, sources-below, read, looked}
 
 -- ---- the lengths
 
@@ -52,8 +52,7 @@ all-below of32 = tt
 -- the last element is in the list, so all are
 pub in-reach : (c : List ℤ) (n s : ℕ) → leb (length c) ((n - 1) * s) ≡ false → (j : ℕ) → j < n → j * s < length c
 in-reach c n s e j h =
-    let p : j ≤ n - 1 = omega arith in
-    lt-of-le-of-lt (mul-le-mul-right s p) (leb-false (length c) ((n - 1) * s) e)
+    let p : j ≤ n - 1 = omega arith in lt-of-le-of-lt (mul-le-mul-right s p) (leb-false (length c) ((n - 1) * s) e)
 
 -- ---- bit-reversed order
 
@@ -79,7 +78,8 @@ source-at n e i h = source-of n n (of-length (λ k. T (sources-below k k)) all-b
 
 lower-at : (n : ℕ) → len (side n) ≡ n → (xs : List ℤ) (j : ℕ) → j < n → at (lower (side n) xs) j ≡ cond (ltb j (n / 2)) (at xs j) (pos 0)
 lower-at n e xs j h =
-    tab-at (len (side n)) (λ i. cond (ltb i (len (side n) / 2)) (at xs i) (pos 0)) (pos 0) j (subst (λ (k : ℕ). j < k) (sym e) h) ∙ (λ i. cond (ltb j (e i / 2)) (at xs j) (pos 0))
+    tab-at (len (side n)) (λ i. cond (ltb i (len (side n) / 2)) (at xs i) (pos 0)) (pos 0) j
+    (subst (λ (k : ℕ). j < k) (sym e) h) ∙ (λ i. cond (ltb j (e i / 2)) (at xs j) (pos 0))
 
 module _ (n : ℕ) (e : len (side n) ≡ n) (i : ℕ) (h : i < n) where
   abbrev from : Source n i
@@ -96,7 +96,8 @@ module _ (n : ℕ) (e : len (side n) ≡ n) (i : ℕ) (h : i < n) where
   read-in false p = from .below
 
   pub read-is : (tx64 : Bool) (xs : List ℤ) → tx64 && eqb (i % 2) 1 ≡ false → at (read tx64 (side n) xs) (source n i) ≡ at xs (source n i)
-  read-is true xs p = lower-at n e xs (source n i) (from .below) ∙ ap (λ (b : Bool). cond b (at xs (source n i)) (pos 0)) (lt-ltb (source n i) (n / 2) (read-in true p))
+  read-is true xs p = lower-at n e xs (source n i) (from .below)
+      ∙ ap (λ (b : Bool). cond b (at xs (source n i)) (pos 0)) (lt-ltb (source n i) (n / 2) (read-in true p))
   read-is false xs p = refl
 
   pub unread-is : (tx64 : Bool) (xs : List ℤ) → tx64 && eqb (i % 2) 1 ≡ true → at (read tx64 (side n) xs) (source n i) ≡ pos 0
@@ -111,8 +112,7 @@ set-tab (suc i) f k = ap (λ (l : List ℤ). f zero ∷ l) (set-tab i (λ j. f (
 
 pub one-more : (i : ℕ) (f : ℕ → ℤ) → i < 32 → set (tab i f ++ replicate (32 - i) (pos 0)) i (f i) ≡ tab (i + 1) f ++ replicate (32 - (i + 1)) (pos 0)
 one-more i f h =
-    let p : 32 - i ≡ suc (31 - i) = omega arith in
-    let q : suc i ≡ i + 1 = omega arith in
+    let p : 32 - i ≡ suc (31 - i) = omega arith in let q : suc i ≡ i + 1 = omega arith in
     let r : 31 - i ≡ 32 - (i + 1) = omega arith in
     (λ j. set (tab i f ++ replicate (p j) (pos 0)) i (f i)) ∙ set-tab i f (31 - i) ∙ (λ j. tab (q j) f ++ replicate (r j) (pos 0))
 

@@ -15,7 +15,7 @@ use Rattle.whole.specs.Numbers.{low, high}
 use Rattle.whole.specs.Lists.{at, tab}
 use Rattle.whole.specs.Both.{Both, none, one}
 use Rattle.whole.proofs.Counts.{tab-at}
-use Rattle.av1.specs.Sides.{Side, of4, of8, of16, of32, len, bits, side}
+use Rattle.levels.specs.Sides.{Side, of4, of8, of16, of32, len, bits, side}
 use Rattle.av1.specs.Network.{permuted, run, steps}
 use Rattle.av1.specs.Values.{clipped, hits}
 use Rattle.dct.specs.Halves.{before, last}
@@ -23,7 +23,7 @@ use Rattle.dct.specs.Fitting.{Small, Ends}
 use Rattle.dct.specs.Stages.{Through, reach, small}
 use Rattle.dct.proofs.Order.{order, mark-order}
 use Rattle.dct.proofs.Walk.{read-back}
-use Rattle.itx_1d.specs.declared.Kind.the-variants.{Dct}
+use Rattle.levels.specs.declared.Kind.the-variants.{Dct}
 use Rattle.itx_1d.specs.Passes.{pass}
 use Rattle.itx_1d.specs.Calls.{taken, put}
 use Rattle.itx_1d.specs.Inner.{source, gathered, read, looked, Seen, Ranged, DctIs}
@@ -35,11 +35,13 @@ both-zeros : (k : ℕ) (g : ℕ → ℕ) → Both Small (replicate k (pos 0)) (t
 both-zeros zero g = none
 both-zeros (suc k) g = let h : 0 ≤ g zero = omega arith in one h (both-zeros k (λ i. g (suc i)))
 
-padded-small : (n k : ℕ) (f : ℕ → ℤ) (g : ℕ → ℕ) → ((i : ℕ) → i < n → natAbs (f i) ≤ g i) → Both Small (tab n f ++ replicate k (pos 0)) (tab (n + k) g)
+padded-small : (n k : ℕ) (f : ℕ → ℤ) (g : ℕ → ℕ) → ((i : ℕ) → i < n → natAbs (f i) ≤ g i)
+    → Both Small (tab n f ++ replicate k (pos 0)) (tab (n + k) g)
 padded-small zero k f g h = let e : k ≡ 0 + k = omega arith in subst (λ (j : ℕ). Both Small (replicate k (pos 0)) (tab j g)) e (both-zeros k g)
 padded-small (suc n) k f g h =
     let e : suc (n + k) ≡ suc n + k = omega arith in
-    subst (λ (j : ℕ). Both Small (tab (suc n) f ++ replicate k (pos 0)) (tab j g)) e (one (h zero (omega arith)) (padded-small n k (λ i. f (suc i)) (λ i. g (suc i)) (λ i l. h (suc i) (omega arith))))
+    subst (λ (j : ℕ). Both Small (tab (suc n) f ++ replicate k (pos 0)) (tab j g)) e
+    (one (h zero (omega arith)) (padded-small n k (λ i. f (suc i)) (λ i. g (suc i)) (λ i l. h (suc i) (omega arith))))
 
 pub not-more : (tx64 : Bool) (n : ℕ) → looked tx64 n ≤ n
 not-more true n = div-le-self n 2
@@ -58,11 +60,14 @@ pub gathered-small : (tx64 : Bool) (n : ℕ) (e : len (side n) ≡ n) (xs : List
     → Both Small (gathered (read tx64 (side n) xs) n) (small tx64)
 gathered-small tx64 n e xs p =
     let all : n + (32 - n) ≡ 32 = omega (arith, at-most-32 n e) in
-    subst (λ (k : ℕ). Both Small (gathered (read tx64 (side n) xs) n) (tab k (reach tx64))) all (padded-small n (32 - n) (λ i. at (read tx64 (side n) xs) (source n i)) (reach tx64) (cell-small tx64 n e xs p))
+    subst (λ (k : ℕ). Both Small (gathered (read tx64 (side n) xs) n) (tab k (reach tx64))) all
+    (padded-small n (32 - n) (λ i. at (read tx64 (side n) xs) (source n i)) (reach tx64) (cell-small tx64 n e xs p))
 
 -- the elements of a list that are looked at
-pub taken-small : (tx64 : Bool) (c : List ℤ) (s n : ℕ) → Seen c s n (looked tx64 n) 524288 → (j : ℕ) → j < looked tx64 n → natAbs (at (taken c s n) j) ≤ 524288
-taken-small tx64 c s n p j h = subst⁻¹ (λ (z : ℤ). natAbs z ≤ 524288) (tab-at n (λ i. at c (i * s)) (pos 0) j (le-trans h (not-more tx64 n))) (p .small j h)
+pub taken-small : (tx64 : Bool) (c : List ℤ) (s n : ℕ) → Seen c s n (looked tx64 n) 524288 → (j : ℕ) → j < looked tx64 n
+    → natAbs (at (taken c s n) j) ≤ 524288
+taken-small tx64 c s n p j h = subst⁻¹ (λ (z : ℤ). natAbs z ≤ 524288)
+    (tab-at n (λ i. at c (i * s)) (pos 0) j (le-trans h (not-more tx64 n))) (p .small j h)
 
 pub ends-of : {lo hi : ℤ} → Ranged lo hi → Ends lo hi
 ends-of {lo} {hi} g =
@@ -110,19 +115,19 @@ module _ (k : Side) (m : ℕ) (xs : List ℤ) {u : List ℤ} {r : Bool} (t : Thr
 
 -- ---- a callee's ends, and the length that is none of the first three
 
-pub through-held : {n : ℕ} {lo hi : ℤ} {t u : List ℤ} {r : Bool} → SFits w32 lo → SFits w32 hi → Through n (toZ w32 (ofZ w32 lo)) (toZ w32 (ofZ w32 hi)) t u r → Through n lo hi t u r
+pub through-held : {n : ℕ} {lo hi : ℤ} {t u : List ℤ} {r : Bool} → SFits w32 lo → SFits w32 hi
+    → Through n (toZ w32 (ofZ w32 lo)) (toZ w32 (ofZ w32 hi)) t u r → Through n lo hi t u r
 through-held {n} {lo} {hi} {t} f g h = record {
   elements = h .elements ∙ read-back f g (λ x y. run (clipped x y) (before n ++ last n) t);
   mark = h .mark ∙ read-back f g (λ x y. hits x y (before n ++ last n) t);
 }
 
 -- the whole of a DCT pass: of n elements xs
-module _ {lo hi : ℤ} {t u : List ℤ} {r : Bool} (n : ℕ) (xs : List ℤ) (g : Ranged lo hi) (e : len (side n) ≡ n) (q : t ≡ gathered xs n) (h : Through (bits (side n) - 1) lo hi t u r) where
+module _ {lo hi : ℤ} {t u : List ℤ} {r : Bool} (n : ℕ) (xs : List ℤ) (g : Ranged lo hi) (e : len (side n) ≡ n)
+    (q : t ≡ gathered xs n) (h : Through (bits (side n) - 1) lo hi t u r) where
   through : Through (bits (side n) - 1) (low (natAbs lo)) (high (natAbs lo)) (gathered xs (len (side n))) u r
   through =
-      let from = q ∙ ap (gathered xs) (sym e) in
-      let k = bits (side n) - 1 in
-      record {
+      let from = q ∙ ap (gathered xs) (sym e) in let k = bits (side n) - 1 in record {
         elements = h .elements ∙ (λ i. run (clipped (g .low-is i) (g .high-is i)) (before k ++ last k) (from i));
         mark = h .mark ∙ (λ i. hits (g .low-is i) (g .high-is i) (before k ++ last k) (from i));
       }
@@ -134,14 +139,16 @@ module _ {lo hi : ℤ} {t u : List ℤ} {r : Bool} (n : ℕ) (xs : List ℤ) (g 
   mark-is = dct-mark (side n) (natAbs lo) xs through
 
 -- and of the elements 0, s, 2s, .. of c
-pub dct-is : (tx64 : Bool) {lo hi : ℤ} {t u : List ℤ} {r : Bool} (c : List ℤ) (s n : ℕ) → Ranged lo hi → len (side n) ≡ n → t ≡ gathered (read tx64 (side n) (taken c s n)) n → Through (bits (side n) - 1) lo hi t u r
+pub dct-is : (tx64 : Bool) {lo hi : ℤ} {t u : List ℤ} {r : Bool} (c : List ℤ) (s n : ℕ) → Ranged lo hi → len (side n) ≡ n
+    → t ≡ gathered (read tx64 (side n) (taken c s n)) n → Through (bits (side n) - 1) lo hi t u r
     → DctIs tx64 n s (natAbs lo) c (put c s u n) r
 dct-is tx64 {lo} {u = u} c s n g e q h =
     let xs = read tx64 (side n) (taken c s n) in
     record { elements = put-ext c s u (pass Dct (side n) (natAbs lo) xs .values) (value-is n xs g e q h) n; mark = mark-is n xs g e q h }
 
 -- of length n, where k is n's side
-pub through-as : {lo hi : ℤ} {t u : List ℤ} {r : Bool} (n : ℕ) (k : Side) → side n ≡ k → SFits w32 lo → SFits w32 hi → Through (bits k - 1) (toZ w32 (ofZ w32 lo)) (toZ w32 (ofZ w32 hi)) t u r → Through (bits (side n) - 1) lo hi t u r
+pub through-as : {lo hi : ℤ} {t u : List ℤ} {r : Bool} (n : ℕ) (k : Side) → side n ≡ k → SFits w32 lo → SFits w32 hi
+    → Through (bits k - 1) (toZ w32 (ofZ w32 lo)) (toZ w32 (ofZ w32 hi)) t u r → Through (bits (side n) - 1) lo hi t u r
 through-as {lo} {hi} {t} {u} {r} n k e f g h = subst⁻¹ (λ (j : Side). Through (bits j - 1) lo hi t u r) e (through-held f g h)
 
 pub sided-32 : (n : ℕ) → (n ≡ 4 → ⊥) → (n ≡ 8 → ⊥) → (n ≡ 16 → ⊥) → side n ≡ of32

@@ -6,11 +6,13 @@ use lib.Dec.{eqb}
 use lib.IntN.{ℤ}
 use Rattle.itx_1d.specs.declared.Pass.{Pass}
 use Rattle.itx_1d.specs.declared.Pass.the-variants.{Done, Range, Stride, Short, Element}
-use Rattle.itx_1d.specs.Calls.{Answer, answer-of, Outcome, Meets}
+use Rattle.whole.specs.Answers.{Answer, Outcome}
+use Rattle.itx_1d.specs.Calls.{answer-of, Meets}
 
 -- the case that an answer stands for
 back : Answer → Pass
-back a = cond (eqb (a .number) 0) (Done (a .mark)) (cond (eqb (a .number) 11) Range (cond (eqb (a .number) 12) Stride (cond (eqb (a .number) 13) Short (Element (a .place)))))
+back a = cond (eqb (a .number) 0) (Done (a .mark))
+    (cond (eqb (a .number) 11) Range (cond (eqb (a .number) 12) Stride (cond (eqb (a .number) 13) Short (Element (a .place)))))
 
 back-is : (r : Pass) → back (answer-of r) ≡ r
 unfolding back

@@ -1,32 +1,21 @@
 -- The public passes: document 01, "One-dimensional passes" and "Numbers of refusal", 11 to 14; request E13.
-use mathlib.Core.Bool.{Bool, true, false, not, cond, _&&_, _||_}
+use mathlib.Core.Bool.{Bool, not, cond, _&&_, _||_}
 use mathlib.Core.List.{List}
 use mathlib.Core.Path.{_≡_}
 use Prim.Native.Nat.{ℕ, zero, suc, _*_, _-_, _/_}
 use lib.Dec.{eqb, leb}
-use lib.IntN.{ℤ, pos, natAbs}
+use lib.IntN.{ℤ, natAbs}
 use lib.ListN.{length, set}
 use Rattle.whole.specs.Numbers.{same, outside, low, high}
 use Rattle.whole.specs.Lists.{at, tab, first}
-use Rattle.whole.specs.Checks.{Check, accept, refuse, unless, unless-at}
-use Rattle.av1.specs.Sides.{Side, of4, len}
+use Rattle.whole.specs.Checks.{Check, accept, unless, unless-at}
+use Rattle.whole.specs.Answers.{Answer, refusal, acceptance, Outcome, outcome-of}
+use Rattle.levels.specs.Sides.{Side, of4, len}
 use Rattle.itx_1d.specs.Passes.{Passed, pass, filled, lower}
-use Rattle.itx_1d.specs.declared.Kind.{Kind}
-use Rattle.itx_1d.specs.declared.Kind.the-variants.{Dct, Identity, Wht}
+use Rattle.levels.specs.declared.Kind.{Kind}
+use Rattle.levels.specs.declared.Kind.the-variants.{Dct, Wht}
 use Rattle.itx_1d.specs.declared.Pass.{Pass}
 use Rattle.itx_1d.specs.declared.Pass.the-variants.{Done, Range, Stride, Short, Element}
-
--- an answer as document 01 counts it: "Acceptance answers 0, place 0 and the mark", a refusal its number, its place and mark no
-pub record Answer : Type 0 where
-  pub number : ℕ
-  pub place : ℕ
-  pub mark : Bool
-
-abbrev pub refusal : ℕ → ℕ → Answer
-refusal number place = record { number = number; place = place; mark = false }
-
-abbrev pub acceptance : Bool → Answer
-acceptance mark = record { number = 0; place = 0; mark = mark }
 
 abbrev pub answer-of : Pass → Answer
 answer-of (Done mark) = acceptance mark
@@ -50,10 +39,6 @@ is-range lo hi m = same lo (low m) && same hi (high m)
 abbrev pub bad-range : ℤ → ℤ → Bool
 bad-range lo hi = not ((is-range lo hi 32768 || is-range lo hi 131072) || is-range lo hi 524288)
 
-pub record Outcome : Type 0 where
-  pub answer : Answer
-  pub elements : List ℤ
-
 -- an accepted pass f
 abbrev pub accepted : (List ℤ → Passed) → Side → ℕ → List ℤ → Outcome
 accepted f n s c =
@@ -67,11 +52,6 @@ checks n looked c s lo hi =
     (unless (leb (length c) ((n - 1) * s)) 13
     (unless-at (first looked (λ i. outside (at c (i * s)) lo hi)) 14
     (accept tt)))
-
--- "A refusal leaves pixels, coefficients and elements unchanged, with mark no."
-abbrev pub outcome-of : List ℤ → Outcome → Check (Unit {0}) → Outcome
-outcome-of c o (accept u) = o
-outcome-of c o (refuse n i) = record { answer = refusal n i; elements = c }
 
 -- a pass that takes its range, which number 11 judges first
 abbrev pub judged : (List ℤ → Passed) → Side → ℕ → List ℤ → ℕ → ℤ → ℤ → Outcome

@@ -9,21 +9,20 @@ use lib.IntN.{ℤ, pos, natAbs}
 use lib.ListN.{getD, length, replicate}
 use Rattle.whole.specs.Numbers.{outside, low, high}
 use Rattle.whole.specs.Lists.{at, tab, first}
-use Rattle.av1.specs.Sides.{Side, of4, of8, of16, of32, len, bits, side}
-use Rattle.dct.specs.Stages.{Through}
+use Rattle.levels.specs.Sides.{Side, len, side}
 use Rattle.itx_1d.specs.Passes.{Passed, identity, pass, lower}
-use Rattle.itx_1d.specs.Calls.{Outcome, taken, put, ranged, halved}
-use Rattle.itx_1d.specs.declared.Kind.{Kind}
-use Rattle.itx_1d.specs.declared.Kind.the-variants.{Dct}
-use Rattle.itx_1d.specs.Manners.{is-wht, is-dct, four-only}
-use Rattle.itx_1d.specs.declared.Found.{Found}
-use Rattle.itx_1d.specs.declared.Found.the-variants.{At, Nothing}
+use Rattle.whole.specs.Answers.{Outcome}
+use Rattle.itx_1d.specs.Calls.{taken, put, ranged, halved}
+use Rattle.levels.specs.declared.Kind.{Kind}
+use Rattle.levels.specs.declared.Kind.the-variants.{Dct}
+use Rattle.levels.specs.Manners.{is-wht, is-dct, four-only}
 use Rattle.itx_1d.specs.declared.Pass.{Pass}
 use Rattle.itx_1d.specs.declared.Pass.the-variants.{Done, Range, Stride, Short, Element}
 
 -- the code's table: 5 bits in reverse order. Of 2 ^ n elements, element i stands at entry i * 2 ^ (5 - n).
 abbrev pub revs : List ℕ
-revs = 0 ∷ 16 ∷ 8 ∷ 24 ∷ 4 ∷ 20 ∷ 12 ∷ 28 ∷ 2 ∷ 18 ∷ 10 ∷ 26 ∷ 6 ∷ 22 ∷ 14 ∷ 30 ∷ 1 ∷ 17 ∷ 9 ∷ 25 ∷ 5 ∷ 21 ∷ 13 ∷ 29 ∷ 3 ∷ 19 ∷ 11 ∷ 27 ∷ 7 ∷ 23 ∷ 15 ∷ 31 ∷ []
+revs = 0 ∷ 16 ∷ 8 ∷ 24 ∷ 4 ∷ 20 ∷ 12 ∷ 28 ∷ 2 ∷ 18 ∷ 10 ∷ 26 ∷ 6 ∷ 22 ∷ 14 ∷ 30 ∷ 1 ∷ 17 ∷ 9 ∷ 25 ∷ 5 ∷ 21 ∷ 13 ∷ 29 ∷ 3 ∷ 19 ∷
+    11 ∷ 27 ∷ 7 ∷ 23 ∷ 15 ∷ 31 ∷ []
 
 abbrev pub source : ℕ → ℕ → ℕ
 source n i = getD revs (i * (32 / n)) 0
@@ -103,16 +102,13 @@ abbrev pub element-check : Option ℕ → Pass
 element-check none = Done false
 element-check (some i) = Element i
 
-abbrev pub found : Found → Option ℕ
-found (At i) = some i
-found Nothing = none
-
 -- what the check of the elements asks: that the checks before it found the elements in the slice, if they went well
 pub record Open (before : Pass) (c : List ℤ) (n s : ℕ) : Type 0 where
   pub inside : (b : Bool) → before ≡ Done b → (j : ℕ) → j < n → j * s < length c
 
 abbrev pub checked : Pass → List ℤ → ℕ → ℕ → ℕ → ℤ → ℤ → Pass
-checked before c n looked s lo hi = after (after before (place-check (eqb s 0) (leb (length c) ((n - 1) * s)))) (element-check (first looked (λ i. outside (at c (i * s)) lo hi)))
+checked before c n looked s lo hi = after (after before (place-check (eqb s 0) (leb (length c) ((n - 1) * s))))
+    (element-check (first looked (λ i. outside (at c (i * s)) lo hi)))
 
 -- the largest element that a pass takes, the length of one that has no other, and the range of one that clips to it
 abbrev pub most : Kind → ℕ

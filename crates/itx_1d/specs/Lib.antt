@@ -1,5 +1,4 @@
 -- What the passes are.
-pub mod Manners
 pub mod Passes
 pub mod Calls
 pub mod Inner

@@ -6,12 +6,12 @@ use lib.Dec.{ltb}
 use lib.IntN.{ℤ, pos, _+ℤ_, _-ℤ_, _*ℤ_}
 use Rattle.whole.specs.Numbers.{_>>_, round2, low, high}
 use Rattle.whole.specs.Lists.{at, tab}
-use Rattle.av1.specs.Sides.{Side, of4, of8, of16, of32, len, bits}
+use Rattle.levels.specs.Sides.{Side, of4, of8, of16, of32, len, bits}
 use Rattle.av1.specs.Network.{permuted, steps, run}
 use Rattle.av1.specs.Values.{clipped, hits}
 use Rattle.av1.specs.Passes.{av1-dct, av1-identity, av1-wht, av1-adst}
-use Rattle.itx_1d.specs.declared.Kind.{Kind}
-use Rattle.itx_1d.specs.declared.Kind.the-variants.{Dct, Identity, Wht, Adst, FlipAdst}
+use Rattle.levels.specs.declared.Kind.{Kind}
+use Rattle.levels.specs.declared.Kind.the-variants.{Dct, Identity, Wht, Adst, FlipAdst}
 
 -- what a pass leaves, and its mark
 pub record Passed : Type 0 where

@@ -8,8 +8,9 @@ ghost use lib.IntN.{ℤ, pos, natAbs};
 ghost use lib.ListN.{length, replicate};
 ghost use Rattle.whole.specs.Numbers as Numbers;
 ghost use Rattle.whole.specs.Lists.{at, first};
-ghost use Rattle.av1.specs.Sides.{of4, of8, of16, of32, len, bits, side};
+ghost use Rattle.levels.specs.Sides.{of4, of8, of16, of32, len, bits, side};
 ghost use Rattle.av1.specs.Passes.{av1-adst};
+ghost use Rattle.intops.specs.Searches.{found};
 ghost use Rattle.dct.specs.Stages as Stages;
 ghost use Rattle.itx_1d.specs.Passes as Passes;
 ghost use Rattle.itx_1d.specs.Calls as Calls;
@@ -20,16 +21,9 @@ use dct::dct4;
 use dct::dct8;
 use dct::dct16;
 use dct::dct32;
+use intops::Found;
 use intops::outside;
-
-// What a pass does to a line of a block (document 01, "Sizes, types, depths").
-pub enum Kind {
-    Dct,
-    Identity,
-    Wht,
-    Adst,
-    FlipAdst,
-}
+use levels::Kind;
 
 // What a public pass answers (document 01, "Numbers of refusal", 11 to 14).
 pub enum Pass {
@@ -38,12 +32,6 @@ pub enum Pass {
     Stride,
     Short,
     Element(usize),
-}
-
-// What a search finds.
-enum Found {
-    At(usize),
-    Nothing,
 }
 
 pub const REV: [u8; 32] = [
@@ -81,7 +69,8 @@ pub const REV: [u8; 32] = [
     31,
 ];
 
-// Element i of the work array, in bit-reversed order. With `tx64` the odd places, which the upper half of the inputs would have, are zero: it is not read.
+// Element i of the work array, in bit-reversed order. With `tx64` the odd places, which the upper half of the inputs would have, are zero:
+// it is not read.
 fn element(c: &[i32], stride: usize, n: usize, tx64: bool, i: usize) -> i32
     requires { ⌜ Inner.Reaches (now c) stride n × (i < n) ⌝ }
     ensures { λ r. ⌜ r ≡ at (Inner.read tx64 (side n) (Calls.taken (now (c .entry)) stride n)) (Inner.source n i) ⌝ }
@@ -239,7 +228,7 @@ fn check_place(before: Pass, length: usize, n: usize, stride: usize) -> Pass
 // The number of the first of the n elements that lies outside the range.
 fn first_outside(c: &[i32], n: usize, stride: usize, min: i32, max: i32) -> Found
     requires { ⌜ ((j : ℕ) → j < n → j * stride < length (now c)) ⌝ }
-    ensures { λ r. ⌜ Inner.found r ≡ first n (λ i. Numbers.outside (at (now (c .entry)) (i * stride)) min max) ⌝ }
+    ensures { λ r. ⌜ found r ≡ first n (λ i. Numbers.outside (at (now (c .entry)) (i * stride)) min max) ⌝ }
 {
     for i in 0..n {
         let v = c[i * stride];

@@ -1,5 +1,5 @@
--- What a program holds while it runs: what was handed on, what its buffers hold, and what is left to do of the bytes in the input buffer and of whatever
--- follows, come to the run of the whole input. For every task.
+-- What a program holds while it runs: what was handed on, what its buffers hold, and what is left to do of the bytes in the input buffer
+-- and of whatever follows, come to the run of the whole input. For every task.
 use mathlib.Core.Path.{_≡_, refl, sym, ap, subst, _∙_}
 use mathlib.Core.Bool.{Bool, true, false}
 use mathlib.Core.List.{List, [], _++_, append-assoc, append-nil}
@@ -8,13 +8,13 @@ use native.Mathlib.Omega.{arith}
 use lib.ListN.{length, take, drop, length-take, length-drop, length-append}
 use lib.Seq.{take-add, sets, sets-eq, take-at}
 use Rattle.jobs.specs.Task.{Written, both, nothing, ahead, Task, run}
-use Rattle.jobs.specs.Steps.{Place, outset}
+use Rattle.jobs.specs.Steps.{Place, outset, remaining}
 use Rattle.jobs.specs.Output.{Next, Last}
-use Rattle.jobs.proofs.Streaming.{remaining}
 use Rattle.jobs.proofs.Handing.{ahead-ahead}
 
 -- bytes that were put after others
-pub take-put : (bytes out : List ℕ) (put : ℕ) → put + length bytes ≤ length out → take (put + length bytes) (sets out put bytes) ≡ take put out ++ bytes
+pub take-put : (bytes out : List ℕ) (put : ℕ) → put + length bytes ≤ length out
+    → take (put + length bytes) (sets out put bytes) ≡ take put out ++ bytes
 take-put bytes out put room =
     rw (sets-eq bytes out put room)
     (take-at (take put out ++ bytes) (drop (put + length bytes) out) (put + length bytes) (rw (length-append, length-take) (omega arith)))
@@ -50,7 +50,8 @@ module _ {R S : Type 0} (t : Task R S) where
     error-room = omega arith;
   }
 
-  module _ {input output error : List ℕ} {at have put told read sent said : ℕ} {p : Place S} (r : Running input output error at have put told read sent said p) where
+  module _ {input output error : List ℕ} {at have put told read sent said : ℕ} {p : Place S}
+      (r : Running input output error at have put told read sent said p) where
     abbrev held : Written
     held = both (take put output) (take told error)
 
@@ -91,11 +92,10 @@ module _ {R S : Type 0} (t : Task R S) where
     -- a step put w into the buffers
     module _ (w : Written) {output′ error′ : List ℕ} (o : output′ ≡ sets output put (w .output)) (e : error′ ≡ sets error told (w .error))
         (room : put + length (w .output) ≤ length output) (error-room : told + length (w .error) ≤ length error) where
-      both-put : (x : Written)
-          → ahead (r .earlier) (ahead held (ahead w x)) ≡ ahead (r .earlier) (ahead (both (take (put + length (w .output)) output′) (take (told + length (w .error)) error′)) x)
+      both-put : (x : Written) → ahead (r .earlier) (ahead held (ahead w x)) ≡ ahead (r .earlier)
+          (ahead (both (take (put + length (w .output)) output′) (take (told + length (w .error)) error′)) x)
       both-put x =
-          ap (ahead (r .earlier)) (ahead-ahead held w x)
-          ∙ sym (λ i. ahead (r .earlier) (ahead (both (out i) (err i)) x))
+          ap (ahead (r .earlier)) (ahead-ahead held w x) ∙ sym (λ i. ahead (r .earlier) (ahead (both (out i) (err i)) x))
         where
           out : take (put + length (w .output)) output′ ≡ take put output ++ w .output
           out = ap (take (put + length (w .output))) o ∙ take-put (w .output) output put room
@@ -111,7 +111,8 @@ module _ {R S : Type 0} (t : Task R S) where
         past = r .past;
         earlier = r .earlier;
         so-far = λ more.
-            r .so-far more ∙ ap (λ (x : Written). ahead (r .earlier) (ahead held x)) (goes more) ∙ both-put (remaining t q (drop next (take have input) ++ more));
+            r .so-far more ∙ ap (λ (x : Written). ahead (r .earlier) (ahead held x)) (goes more)
+            ∙ both-put (remaining t q (drop next (take have input) ++ more));
         read-is = r .read-is;
         sent-is = r .sent-is;
         said-is = r .said-is;
@@ -157,11 +158,12 @@ module _ {R S : Type 0} (t : Task R S) where
     }
 
   -- bytes were read after those that are held
-  pub filled : {input output error : List ℕ} {have put told read sent said : ℕ} {p : Place S} → Running input output error 0 have put told read sent said p
-      → {input′ : List ℕ} {n : ℕ} → take have input′ ≡ take have input → have ≤ n → n ≤ length input′ → Running input′ output error 0 n put told (read + (n - have)) sent said p
+  pub filled : {input output error : List ℕ} {have put told read sent said : ℕ} {p : Place S}
+      → Running input output error 0 have put told read sent said p
+      → {input′ : List ℕ} {n : ℕ} → take have input′ ≡ take have input → have ≤ n → n ≤ length input′
+      → Running input′ output error 0 n put told (read + (n - have)) sent said p
   filled {input} {output} {error} {have} {put} {told} {read} {sent} {said} {p} r {input′} {n} kept more-or-same inside =
-      let new = take (n - have) (drop have input′) in
-      let end : n ≡ have + (n - have) = omega arith in
+      let new = take (n - have) (drop have input′) in let end : n ≡ have + (n - have) = omega arith in
       let all : take n input′ ≡ take have input ++ new =
       ap (λ (m : ℕ). take m input′) end ∙ take-add have (n - have) input′ ∙ ap (λ (l : List ℕ). l ++ new) kept in
       record {
@@ -181,7 +183,8 @@ module _ {R S : Type 0} (t : Task R S) where
       }
 
   -- and if none were, nothing changes
-  pub as-before : {input output error : List ℕ} {have put told read sent said : ℕ} {p : Place S} → Running input output error 0 have put told read sent said p
+  pub as-before : {input output error : List ℕ} {have put told read sent said : ℕ} {p : Place S}
+      → Running input output error 0 have put told read sent said p
       → {input′ : List ℕ} → take have input′ ≡ take have input → have ≤ length input′ → Running input′ output error 0 have put told read sent said p
   as-before {output} {error} {have} {put} {told} {read} {sent} {said} {p} r {input′} kept inside =
       subst (λ (n : ℕ). Running input′ output error 0 have put told n sent said p) (omega arith) (filled r kept (omega arith) inside)

@@ -76,8 +76,7 @@ module _ (rows : List ℤ) (w h r : ℕ) where
         -- no other cell holds this element
         only : (i : ℕ) → i < w * h → i % h * w + i / h ≡ j → i ≡ y + x * h
         only i l same =
-            let whole = same ∙ k .place in
-            let left : i / h < w = div-lt-iff-lt-mul (live .high) .1 l in
+            let whole = same ∙ k .place in let left : i / h < w = div-lt-iff-lt-mul (live .high) .1 l in
             let same-row : i % h ≡ y = sym (digits-div (i % h) left) ∙ ap (λ (n : ℕ). n / w) whole ∙ digits-div y (k .inside) in
             let same-column : i / h ≡ x = sym (digits-mod (i % h) left) ∙ ap (λ (n : ℕ). n % w) whole ∙ digits-mod y (k .inside) in
             sym (mod-add-div' i h) ∙ (λ d. same-row d + same-column d * h)

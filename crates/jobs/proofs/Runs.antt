@@ -15,34 +15,36 @@ use Rattle.blockfile.proofs.Rooms.{Room, Some}
 use Rattle.blockfile.proofs.Records.{Writable, form-lawful, form-room, some-form}
 use Rattle.blockfile.proofs.Fill.{place-of}
 use Rattle.tally.proofs.Tallies.{none-yet}
-use Rattle.jobs.specs.Task.{Written, ahead, Done, done, bad, here, refusedAt, Task}
-use Rattle.jobs.specs.Steps.{Place, outset, before, Step, wrote, wanted, closed, number, mind, ending, falling, opened, acting, came, step}
+use Rattle.jobs.specs.Task.{Written, ahead, Done, done, bad, here, refused-at, Task}
+use Rattle.jobs.specs.Steps.{Place, outset, before, Step, wrote, wanted, closed, number, mind, ending, falling, opened, acting, came}
+use Rattle.jobs.specs.Steps.{step, remaining, Follows}
 use Rattle.jobs.specs.Act.{blocks}
 use Rattle.jobs.specs.Salvage.{salvage}
 use Rattle.jobs.specs.Totalling.{totalling}
 use Rattle.jobs.specs.Output.{Last}
-use Rattle.jobs.specs.Answer.{Mind, taskOf, Minds, restOf, versionOf, mindAt, mindAfter, turnOf, Stepped, placeAt, roomy, Turned}
+use Rattle.jobs.specs.Stepping.{Minds, rest-of, version-of, mind-at, mind-after, turn-of, Stepped, place-at, roomy, Turned}
+use Rattle.jobs.specs.Jobs.{Mind, task-of}
 use Rattle.jobs.specs.declared.step.Job.{Job}
 use Rattle.jobs.specs.declared.step.Job.the-variants as Job
 use Rattle.jobs.specs.declared.step.Turn.{Turn}
 use Rattle.jobs.specs.declared.step.Turn.the-variants.{Wrote, Full, More, Stop}
-use Rattle.jobs.proofs.Streaming.{remaining, Follows, follows}
+use Rattle.jobs.proofs.Streaming.{follows}
 use Rattle.jobs.proofs.Held.{Running, unchanged, stepped, closes}
 
 -- every job reads records of one form
-job-lawful : (j : Job) (v : ℕ) → Lawful (taskOf j .form v) (Writable v)
+job-lawful : (j : Job) (v : ℕ) → Lawful (task-of j .form v) (Writable v)
 unfolding blocks salvage totalling
 job-lawful Job.Blocks v = form-lawful v
 job-lawful Job.Salvage v = form-lawful v
 job-lawful (Job.Totals most) v = form-lawful v
 
-some-job : (j : Job) (v : ℕ) → Some (taskOf j .form v)
+some-job : (j : Job) (v : ℕ) → Some (task-of j .form v)
 unfolding blocks salvage totalling
 some-job Job.Blocks v = some-form v
 some-job Job.Salvage v = some-form v
 some-job (Job.Totals most) v = some-form v
 
-job-room : (j : Job) (v : ℕ) → Room (taskOf j .form v) (Writable v) 10265
+job-room : (j : Job) (v : ℕ) → Room (task-of j .form v) (Writable v) 10265
 unfolding blocks salvage totalling
 job-room Job.Blocks v = form-room v
 job-room Job.Salvage v = form-room v
@@ -51,7 +53,7 @@ job-room (Job.Totals most) v = form-room v
 -- ---- after a step that wrote, the next number follows
 
 abbrev NextTo : {S : Type 0} → Place S → Step S → Type 0
-NextTo {S} p (wrote w q rest) = (m : S) × (q ≡ before (versionOf q) (suc (number p)) m)
+NextTo {S} p (wrote w q rest) = (m : S) × (q ≡ before (version-of q) (suc (number p)) m)
 NextTo {S} p wanted = Unit {0}
 NextTo {S} p (closed w) = Unit {0}
 
@@ -60,7 +62,7 @@ module _ {S : Type 0} (t : Task Block S) (last : Bool) where
   unfolding falling
   next-falling p k = go (eqb k 15 && not last)
     where
-      go : (b : Bool) → NextTo p (cond b wanted (ending t p (refusedAt (number p) k)))
+      go : (b : Bool) → NextTo p (cond b wanted (ending t p (refused-at (number p) k)))
       go true = tt
       go false = tt
 
@@ -82,83 +84,93 @@ module _ {S : Type 0} (t : Task Block S) (last : Bool) where
       by rest (done a) = (a .0, refl)
       by rest (bad k) = tt
 
-      go : (l : Bool) (r : Read Block) → NextTo (before v i s) (cond l (ending t (before v i s) (refusedAt i 22)) (came t last v i s r))
+      go : (l : Bool) (r : Read Block) → NextTo (before v i s) (cond l (ending t (before v i s) (refused-at i 22)) (came t last v i s r))
       go true r = tt
       go false (got x rest) = by rest (t .act v i s x)
       go false (refused k) = next-falling (before v i s) k
 
-number-at : {S : Type 0} (v i : ℕ) (m : S) → number (placeAt v i m) ≡ i
+number-at : {S : Type 0} (v i : ℕ) (m : S) → number (place-at v i m) ≡ i
 number-at v zero m = refl
 number-at v (suc i) m = refl
 
 -- ---- after a step
 
 module _ (j : Job) (v i : ℕ) (m : Mind j) {input output error : List ℕ} {at have put told read sent said : ℕ}
-    (r : Running (taskOf j) input output error at have put told read sent said (placeAt v i m)) (last : Bool) (sums′ output′ error′ : List ℕ) where
+    (r : Running (task-of j) input output error at have put told read sent said (place-at v i m)) (last : Bool) (sums′ output′ error′ : List ℕ) where
   -- with what is kept in mind then, and its numbers
   abbrev pub After : Turn → Type 0
   After (Wrote u next end end-told) =
-      (n : Mind j) × (Running (taskOf j) input output′ error′ next have end end-told read sent said (placeAt u (i + 1) n) × Minds j sums′ (mind (taskOf j) (placeAt u (i + 1) n)))
+      (n : Mind j) × (Running (task-of j) input output′ error′ next have end end-told read sent said (place-at u (i + 1) n)
+      × Minds j sums′ (mind (task-of j) (place-at u (i + 1) n)))
   After Full =
-      Running (taskOf j) input output′ error′ at have put told read sent said (placeAt v i m) × Minds j sums′ (mind (taskOf j) (placeAt v i m))
+      Running (task-of j) input output′ error′ at have put told read sent said (place-at v i m) × Minds j sums′ (mind (task-of j) (place-at v i m))
   After More =
-      Running (taskOf j) input output′ error′ at have put told read sent said (placeAt v i m)
-      × (Minds j sums′ (mind (taskOf j) (placeAt v i m)) × (have - at < 10265))
-  After (Stop end end-told) = (end ≤ length output′) × ((end-told ≤ length error′) × Last (taskOf j) last read sent said (take end output′) (take end-told error′))
+      Running (task-of j) input output′ error′ at have put told read sent said (place-at v i m)
+      × (Minds j sums′ (mind (task-of j) (place-at v i m)) × (have - at < 10265))
+  After (Stop end end-told) = (end ≤ length output′)
+      × ((end-told ≤ length error′) × Last (task-of j) last read sent said (take end output′) (take end-told error′))
 
   module _ (same : length output′ ≡ length output) (same′ : length error′ ≡ length error) where
     abbrev p : Place (Mind j)
-    p = placeAt v i m
+    p = place-at v i m
 
     abbrev s : List ℕ
     s = take have input
 
-    stepped-to : (d : Step (Mind j)) → step (taskOf j) last p (drop at s) ≡ d → {a : Turn}
-        → Stepped j d (length s - length (restOf d)) output put error told output′ error′ a → Minds j sums′ (mindAfter (mind (taskOf j) p) d) → After a
+    stepped-to : (d : Step (Mind j)) → step (task-of j) last p (drop at s) ≡ d → {a : Turn}
+        → Stepped j d (length s - length (rest-of d)) output put error told output′ error′ a
+        → Minds j sums′ (mind-after (mind (task-of j) p) d) → After a
     stepped-to d e x h = subst After (sym (x .answer)) (go d e x h)
       where
-        f : Follows (taskOf j) last p (drop at s) (step (taskOf j) last p (drop at s))
-        f = follows (taskOf j) (job-lawful j) (some-job j) (job-room j) last p (drop at s)
+        f : Follows (task-of j) last p (drop at s) (step (task-of j) last p (drop at s))
+        f = follows (task-of j) (job-lawful j) (some-job j) (job-room j) last p (drop at s)
 
-        go : (d : Step (Mind j)) → step (taskOf j) last p (drop at s) ≡ d → {a : Turn}
-            → Stepped j d (length s - length (restOf d)) output put error told output′ error′ a → Minds j sums′ (mindAfter (mind (taskOf j) p) d)
-            → After (turnOf (length s - length (restOf d)) put told d)
+        go : (d : Step (Mind j)) → step (task-of j) last p (drop at s) ≡ d → {a : Turn}
+            → Stepped j d (length s - length (rest-of d)) output put error told output′ error′ a → Minds j sums′ (mind-after (mind (task-of j) p) d)
+            → After (turn-of (length s - length (rest-of d)) put told d)
         go (wrote w q rest) e x h =
-            let g : Follows (taskOf j) last p (drop at s) (wrote w q rest) = subst (Follows (taskOf j) last p (drop at s)) e f in
+            let g : Follows (task-of j) last p (drop at s) (wrote w q rest) = subst (Follows (task-of j) last p (drop at s)) e f in
             let at-rest : drop (length s - length rest) s ≡ rest = place-of s (g .1 .front) rest at (g .1 .is) in
-            let n : NextTo p (wrote w q rest) = subst (NextTo p) e (next-to (taskOf j) last p (drop at s)) in
-            let next : q ≡ placeAt (versionOf q) (i + 1) (n .0) =
-            n .1 ∙ ap (λ (k : ℕ). before (versionOf q) (suc k) (n .0)) (number-at v i m)
-            ∙ ap (λ (k : ℕ). placeAt (versionOf q) k (n .0)) (sym (add-one i)) in (
+            let n : NextTo p (wrote w q rest) = subst (NextTo p) e (next-to (task-of j) last p (drop at s)) in
+            let next : q ≡ place-at (version-of q) (i + 1) (n .0) =
+            n .1 ∙ ap (λ (k : ℕ). before (version-of q) (suc k) (n .0)) (number-at v i m)
+            ∙ ap (λ (k : ℕ). place-at (version-of q) k (n .0)) (sym (add-one i)) in (
               n .0,
               (
-                subst (Running (taskOf j) input output′ error′ (length s - length rest) have (put + length (w .output)) (told + length (w .error)) read sent said) next
-                    (stepped (taskOf j) r w (x .output) (x .error) (x .room) (x .error-room)
-                    (λ more. g .0 more ∙ ap (λ (l : List ℕ). ahead w (remaining (taskOf j) q (l ++ more))) (sym at-rest)) (simp length-take (omega (arith, r .inside))) same same′),
-                subst (λ (k : ℕ). Minds j sums′ (mind (taskOf j) (placeAt (versionOf q) k (n .0)))) (sym (add-one i))
-                    (subst (λ (q : Place (Mind j)). Minds j sums′ (mindAt (mind (taskOf j) p) q)) (n .1) h),
+                subst (Running (task-of j) input output′ error′ (length s - length rest) have (put + length (w .output))
+                    (told + length (w .error)) read sent said) next
+                    (stepped (task-of j) r w (x .output) (x .error) (x .room) (x .error-room)
+                    (λ more. g .0 more ∙ ap (λ (l : List ℕ). ahead w (remaining (task-of j) q (l ++ more))) (sym at-rest))
+                    (simp length-take (omega (arith, r .inside))) same same′),
+                subst (λ (k : ℕ). Minds j sums′ (mind (task-of j) (place-at (version-of q) k (n .0)))) (sym (add-one i))
+                    (subst (λ (q : Place (Mind j)). Minds j sums′ (mind-at (mind (task-of j) p) q)) (n .1) h),
               ),
             )
         go wanted e x h =
-            let g : Follows (taskOf j) last p (drop at s) wanted = subst (Follows (taskOf j) last p (drop at s)) e f in
+            let g : Follows (task-of j) last p (drop at s) wanted = subst (Follows (task-of j) last p (drop at s)) e f in
             let few = g .1 in
-            (unchanged (taskOf j) r (x .output) (x .error), (h, omega (arith, simp (length-drop, length-take) at few, r .inside)))
+            (unchanged (task-of j) r (x .output) (x .error), (h, omega (arith, simp (length-drop, length-take) at few, r .inside)))
         go (closed w) e x h = (
           omega (arith, x .room, same),
-          (omega (arith, x .error-room, same′), closes (taskOf j) r w (x .output) (x .error) (x .room) (x .error-room) last (subst (Follows (taskOf j) last p (drop at s)) e f)),
+          (
+            omega (arith, x .error-room, same′),
+            closes (task-of j) r w (x .output) (x .error) (x .room) (x .error-room) last
+                (subst (Follows (task-of j) last p (drop at s)) e f),
+          ),
         )
 
-    pub after : (sums : List ℕ) → Minds j sums (mind (taskOf j) p) → (a : Turn)
+    pub after : (sums : List ℕ) → Minds j sums (mind (task-of j) p) → (a : Turn)
         → Turned (roomy j sums output put error told) j p s at last sums output put error told sums′ output′ error′ a → After a
     after sums h a x = go (roomy j sums output put error told) x
       where
         go : (t : Bool) → Turned t j p s at last sums output put error told sums′ output′ error′ a → After a
-        go true x = let y = x h in stepped-to (step (taskOf j) last p (drop at s)) refl (y .0) (y .1)
+        go true x = let y = x h in stepped-to (step (task-of j) last p (drop at s)) refl (y .0) (y .1)
         go false x =
-            subst After (sym (x .1 .1 .1)) (unchanged (taskOf j) r (x .1 .0) (x .1 .1 .0), subst (λ (l : List ℕ). Minds j l (mind (taskOf j) p)) (sym (x .0)) h)
+            subst After (sym (x .1 .1 .1))
+            (unchanged (task-of j) r (x .1 .0) (x .1 .1 .0), subst (λ (l : List ℕ). Minds j l (mind (task-of j) p)) (sym (x .0)) h)
 
 -- before the first number
-pub minds-none : (j : Job) → Minds j (replicate 276 0) (taskOf j .start)
+pub minds-none : (j : Job) → Minds j (replicate 276 0) (task-of j .start)
 unfolding totalling
 minds-none Job.Blocks = tt
 minds-none Job.Salvage = tt

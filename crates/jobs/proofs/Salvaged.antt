@@ -26,27 +26,29 @@ use Rattle.levels.specs.declared.Plan.{Plan}
 use Rattle.levels.specs.Plans.{plan, shift-of}
 use Rattle.levels.proofs.Sizes.{Planned, plan-of, plan-sided, side-bounds}
 use Rattle.coefs.specs.Coefs.{Covers}
-use Rattle.strided.specs.Planes.{accepted, bad-view, bad-stride, whole, lies}
+use Rattle.strided.specs.Planes.{bad-view, bad-stride, whole, lies}
+use Rattle.whole.specs.Checks.{accepted}
 use Rattle.strided.specs.declared.Width.the-variants.{Wide}
 use Rattle.pixels.proofs.Above.{no-above}
-use Rattle.itx.specs.Calls.{Call, lengths-lines, plain, live, bad-eob, bad-rows, stray, verdict, range-line, stray-line, pixel-line, table}
+use Rattle.itx.specs.Calls.{Call, lengths-lines, plain, live, bad-eob, bad-rows, stray, verdict, range-line, stray-line, table}
 use Rattle.itx.proofs.Verdicts.{then-same, planned-at}
 use Rattle.itx.proofs.Sameness.{strays-none}
 use Rattle.itx.proofs.Visible.{whole-spotted}
 use Rattle.itx.proofs.Widths.{left-out}
-use Rattle.itx.proofs.Numbers.{num, answer-num, By, has, num-by, then-by, judged-by, depth-by, planned-by, early, late, passed, past-8}
-use Rattle.blockfile.specs.Form.{number, writeEach, Each}
+use Rattle.itx.specs.Widths.{one-of}
+use Rattle.itx.proofs.Numbers.{num, answer-num, By, num-by, then-by, judged-by, depth-by, planned-by, early, late, passed, past-8}
+use Rattle.blockfile.specs.Form.{number, write-each, Each}
 use Rattle.blockfile.specs.Record.{Block, area, sized, count, Plain, form}
 use Rattle.blockfile.specs.declared.record.Head.{Head}
-use Rattle.blockfile.specs.File.{all, before, file, writeFile, readBlocks, writeBlocks}
+use Rattle.blockfile.specs.File.{all, before, file, write-file, read-blocks, write-blocks}
 use Rattle.blockfile.proofs.Forms.{each-length}
 use Rattle.blockfile.proofs.Files.{blocks-back, blocks-only}
-use Rattle.jobs.specs.Rows.{spread, inBuffer}
-use Rattle.text.specs.Text.{refusedLine}
-use Rattle.jobs.specs.Task.{Written, both, ahead, End, here, refusedAt, begun, toldOn, told, toldFile, run}
-use Rattle.jobs.specs.Act.{callOf, given, call, toldEnd}
-use Rattle.mend.specs.Mend.{planned, range, moved, mended, mend, changesOf, before9, InRange, PixelsLow, lines, allLines}
-use Rattle.jobs.specs.Salvage.{salvage}
+use Rattle.jobs.specs.Rows.{spread, buffered}
+use Rattle.text.specs.Text.{refused-line}
+use Rattle.jobs.specs.Task.{Written, both, ahead, End, here, refused-at, begun, told-on, told, told-file, run}
+use Rattle.jobs.specs.Act.{call-for, given, call, told-end}
+use Rattle.mend.specs.Mend.{planned, range, moved, mended, mend, changes-of, before9, InRange, PixelsLow, lines, all-lines}
+use Rattle.jobs.specs.Salvage.{salvage, pixels-line}
 use Rattle.jobs.proofs.Versions.{spread-covers, each-mapped, all-mapped}
 use Rattle.mend.proofs.Mends.{in-range-stays, mended-in-range}
 
@@ -54,7 +56,7 @@ use Rattle.mend.proofs.Mends.{in-range-stays, mended-in-range}
 
 -- the buffer holds numbers of the file, and zeros
 buffer-in : (v : ℕ) (h : Head) (m : ℕ) (cs : List ℤ) → InRange (accept m) cs → (i : ℕ) → i < area h
-    → outside (at (inBuffer v h cs) i) (low m) (high m) ≡ false
+    → outside (at (buffered v h cs) i) (low m) (high m) ≡ false
 buffer-in v h m cs inside i l = go (eqb v 2)
   where
     cell : (t : Bool) (j : ℕ) → outside (cond t (at cs j) (pos 0)) (low m) (high m) ≡ false
@@ -68,7 +70,7 @@ buffer-in v h m cs inside i l = go (eqb v 2)
         ∙ cell (ltb (i % h .h) (h .announced)) (i % h .h * h .w + i / h .h)
     go false = inside i
 
-buffer-length : (v : ℕ) (h : Head) (cs cs′ : List ℤ) → length cs ≡ length cs′ → length (inBuffer v h cs) ≡ length (inBuffer v h cs′)
+buffer-length : (v : ℕ) (h : Head) (cs cs′ : List ℤ) → length cs ≡ length cs′ → length (buffered v h cs) ≡ length (buffered v h cs′)
 buffer-length v h cs cs′ e = go (eqb v 2)
   where
     go : (t : Bool) → length (cond t (spread (h .w) (h .h) (h .announced) cs) cs) ≡ length (cond t (spread (h .w) (h .h) (h .announced) cs′) cs′)
@@ -80,7 +82,7 @@ mended-length (accept m) cs = map-length (moved m) cs
 mended-length (refuse n i) cs = refl
 
 -- version 2 leaves no stray, and version 1 does not look for one
-no-strays : (v : ℕ) (h : Head) (cs : List ℤ) (p : Plan) → plan (h .w) (h .h) (h .txtp) ≡ accept p → stray (callOf v h) p (inBuffer v h cs) ≡ none
+no-strays : (v : ℕ) (h : Head) (cs : List ℤ) (p : Plan) → plan (h .w) (h .h) (h .txtp) ≡ accept p → stray (call-for v h) p (buffered v h cs) ≡ none
 no-strays v h cs p e = go (eqb v 2)
   where
     k : Planned (h .w) (h .h) (h .txtp) p
@@ -103,81 +105,64 @@ no-strays v h cs p e = go (eqb v 2)
 
 module _ (v : ℕ) (b : Block) where
   abbrev k : Call
-  k = callOf v (b .head)
-
-  abbrev pub pixels-line : Line (Plan × Depth)
-  pixels-line = pixel-line (b .pixels) (lies (given v b .plane))
+  k = call-for v (b .head)
 
   in-place : (a : Plan × Depth) → planned (b .head) ≡ accept a
-      → judged (table k (given v (mend b))) a ≡ judged (early k (given v b) ++ pixels-line ∷ []) a
+      → judged (table k (given v (mend b))) a ≡ judged (early k (given v b) ++ pixels-line v b ∷ []) a
   in-place a e =
-      let h = b .head in
-      let p = a .0 in
-      let m = row-range (a .1) in
-      let cs = mend b .coefficients in
+      let h = b .head in let p = a .0 in let m = row-range (a .1) in let cs = mend b .coefficients in
       let is = planned-at (plan (h .w) (h .h) (h .txtp)) (h .depth) p (a .1) e .0 in
-      let q = plan-of (h .w) (h .h) (h .txtp) p is in
-      let size : p .w * p .h ≡ area h = (λ i. q .w-is i * q .h-is i) in
+      let q = plan-of (h .w) (h .h) (h .txtp) p is in let size : p .w * p .h ≡ area h = (λ i. q .w-is i * q .h-is i) in
       let is-m : range h ≡ accept m = ap (λ (c : Check (Plan × Depth)). then c (λ a. accept (row-range (a .1)))) e in
       let inside : InRange (accept m) cs = subst (λ (c : Check ℕ). InRange c cs) is-m (mended-in-range b) in
       let ranged = none-first (p .w * p .h) _ (λ i l. buffer-in v h m cs inside i (omega (arith, l, size))) in
-      let c = inBuffer v h cs in
-      let front = early k (given v (mend b)) in
-      left-out front (range-line c) (stray-line k c ∷ pixels-line ∷ []) a (sym ranged)
-      ∙ left-out front (stray-line k c) (pixels-line ∷ []) a (sym (no-strays v h cs p is))
-      ∙ ap (λ (n : ℕ). judged (lengths-lines k n Wide (length (b .pixels)) (whole (h .w) (h .h)) ++ pixels-line ∷ []) a)
+      let c = buffered v h cs in let front = early k (given v (mend b)) in
+      left-out front (range-line c) (stray-line k c ∷ pixels-line v b ∷ []) a (sym ranged)
+      ∙ left-out front (stray-line k c) (pixels-line v b ∷ []) a (sym (no-strays v h cs p is))
+      ∙ ap (λ (n : ℕ). judged (lengths-lines k n Wide (length (b .pixels)) (whole (h .w) (h .h)) ++ pixels-line v b ∷ []) a)
       (buffer-length v h cs (b .coefficients) (mended-length (range h) (b .coefficients)))
 
-  pub mended-verdict : verdict k (given v (mend b)) ≡ then (planned (b .head)) (judged (early k (given v b) ++ pixels-line ∷ []))
-  mended-verdict = then-same (planned (b .head)) (judged (table k (given v (mend b)))) (judged (early k (given v b) ++ pixels-line ∷ [])) in-place
+  pub mended-verdict : verdict k (given v (mend b)) ≡ then (planned (b .head)) (judged (early k (given v b) ++ pixels-line v b ∷ []))
+  mended-verdict = then-same (planned (b .head)) (judged (table k (given v (mend b)))) (judged (early k (given v b) ++ pixels-line v b ∷ [])) in-place
 
   -- one that was refused by 9 is judged by its pixels alone
   pub after-9 : call v b .answer .number ≡ 9
-      → (a : Plan × Depth) × (planned (b .head) ≡ accept a) × (verdict k (given v (mend b)) ≡ judged (pixels-line ∷ []) a)
+      → (a : Plan × Depth) × (planned (b .head) ≡ accept a) × (verdict k (given v (mend b)) ≡ judged (pixels-line v b ∷ []) a)
   after-9 e =
-      let f = past-8 k (given v b) e in
-      let front = early k (given v b) in
-      let on : Check (Plan × Depth) → Check (Plan × Depth) = λ c. then c (judged (front ++ pixels-line ∷ [])) in
-      (f .0, f .1, mended-verdict ∙ ap on (f .1) ∙ passed front (pixels-line ∷ []) (f .0) (f .2))
+      let f = past-8 k (given v b) e in let front = early k (given v b) in
+      let on : Check (Plan × Depth) → Check (Plan × Depth) = λ c. then c (judged (front ++ pixels-line v b ∷ [])) in
+      (f .0, f .1, mended-verdict ∙ ap on (f .1) ∙ passed front (pixels-line v b ∷ []) (f .0) (f .2))
 
   -- so it is accepted, or refused by 21
-  pub only-21 : call v b .answer .number ≡ 9 → T (has (0 ∷ 21 ∷ []) (call v (mend b) .answer .number))
+  pub only-21 : call v b .answer .number ≡ 9 → T (one-of (0 ∷ 21 ∷ []) (call v (mend b) .answer .number))
   only-21 e =
-      let f = after-9 e in
-      let ok = has (0 ∷ 21 ∷ []) in
+      let f = after-9 e in let ok = one-of (0 ∷ 21 ∷ []) in
       subst⁻¹ (λ (n : ℕ). T (ok n)) (answer-num k (given v (mend b)) ∙ ap num (f .2))
-      (num-by ok (judged (pixels-line ∷ []) (f .0)) tt (judged-by ok (Plan × Depth) (pixels-line ∷ []) (f .0) tt))
+      (num-by ok (judged (pixels-line v b ∷ []) (f .0)) tt (judged-by ok (Plan × Depth) (pixels-line v b ∷ []) (f .0) tt))
 
   -- "Every record refused before only for 9 is accepted after."
   pub accepted-after : call v b .answer .number ≡ 9 → PixelsLow b → call v (mend b) .answer .number ≡ 0
   accepted-after e low-pixels =
-      let f = after-9 e in
-      let h = b .head in
-      let a = f .0 in
+      let f = after-9 e in let h = b .head in let a = f .0 in
       let is = planned-at (plan (h .w) (h .h) (h .txtp)) (h .depth) (a .0) (a .1) (f .1) in
-      let q = plan-of (h .w) (h .h) (h .txtp) (a .0) (is .0) in
-      let s = lies (given v b .plane) in
+      let q = plan-of (h .w) (h .h) (h .txtp) (a .0) (is .0) in let s = lies (given v b .plane) in
       let sound = no-above (maximum (a .1)) (b .pixels) s (a .0 .w) (omega (arith, q .w-is)) (λ y x l g. low-pixels (a .1) (is .1) _) in
       answer-num k (given v (mend b)) ∙ ap num (f .2) ∙ ap (λ (o : Option ℕ). num (unless-at o 21 (accept a))) sound
 
 -- ---- a record that was read
 
 -- of the numbers checked between the depth and 9 it meets none
-read-clear : (v : ℕ) (b : Block) → Plain v b → (a : Plan × Depth) → planned (b .head) ≡ accept a → Clear (early (callOf v (b .head)) (given v b)) a
+read-clear : (v : ℕ) (b : Block) → Plain v b → (a : Plan × Depth) → planned (b .head) ≡ accept a → Clear (early (call-for v (b .head)) (given v b)) a
 read-clear v b r a e =
-    let h = b .head in
-    let p = a .0 in
-    let is = planned-at (plan (h .w) (h .h) (h .txtp)) (h .depth) p (a .1) e .0 in
-    let q = plan-of (h .w) (h .h) (h .txtp) p is in
-    let s = plan-sided (h .w) (h .h) (h .txtp) p is in
-    let wide = side-bounds (p .w) (s .0) .0 in
-    let tall = side-bounds (p .h) (s .1) .0 in
+    let h = b .head in let p = a .0 in let is = planned-at (plan (h .w) (h .h) (h .txtp)) (h .depth) p (a .1) e .0 in
+    let q = plan-of (h .w) (h .h) (h .txtp) p is in let s = plan-sided (h .w) (h .h) (h .txtp) p is in
+    let wide = side-bounds (p .w) (s .0) .0 in let tall = side-bounds (p .h) (s .1) .0 in
     let many = each-length _ (area h) (b .pixels) (r .pixels) in
     let t = whole-spotted (h .w) (h .h) (length (b .pixels)) (omega (arith, q .w-is)) (omega (arith, q .h-is)) many in
     let c = go h (b .coefficients) (eqb v 2) (r .allowed) (r .coefficients) in (
       ap when (c .0),
       (
-        (λ i. when (bad-rows (callOf v h) (q .h-is i))) ∙ ap when (c .1),
+        (λ i. when (bad-rows (call-for v h) (q .h-is i))) ∙ ap when (c .1),
         (
           ap when ((λ i. ltb (c .2 i) (q .w-is i * q .h-is i)) ∙ le-ltb (area h) (area h) (omega arith)),
           (
@@ -197,11 +182,9 @@ read-clear v b r a e =
 
 -- so the type, the depth, 9 and 21 are all that it is refused for
 pub read-verdict : (v : ℕ) (b : Block) → Plain v b
-    → verdict (callOf v (b .head)) (given v b) ≡ then (planned (b .head)) (judged (range-line (given v b .coefs) ∷ pixels-line v b ∷ []))
+    → verdict (call-for v (b .head)) (given v b) ≡ then (planned (b .head)) (judged (range-line (given v b .coefs) ∷ pixels-line v b ∷ []))
 read-verdict v b r =
-    let h = b .head in
-    let k = callOf v h in
-    let c = inBuffer v h (b .coefficients) in
+    let h = b .head in let k = call-for v h in let c = buffered v h (b .coefficients) in
     then-same (planned h) (judged (table k (given v b))) (judged (range-line c ∷ pixels-line v b ∷ []))
     (λ a e. let is = planned-at (plan (h .w) (h .h) (h .txtp)) (h .depth) (a .0) (a .1) e .0 in
     passed (early k (given v b)) (late k (given v b)) a (read-clear v b r a e)
@@ -226,20 +209,17 @@ module _ (v : ℕ) (b : Block) (r : Plain v b) where
   ls = range-line (given v b .coefs) ∷ pixels-line v b ∷ []
 
   number-is : call v b .answer .number ≡ num (then (planned (b .head)) (judged ls))
-  number-is = answer-num (callOf v (b .head)) (given v b) ∙ ap num (read-verdict v b r)
+  number-is = answer-num (call-for v (b .head)) (given v b) ∙ ap num (read-verdict v b r)
 
-  pub read-numbers : T (has (0 ∷ 2 ∷ 3 ∷ 9 ∷ 21 ∷ []) (call v b .answer .number))
+  pub read-numbers : T (one-of (0 ∷ 2 ∷ 3 ∷ 9 ∷ 21 ∷ []) (call v b .answer .number))
   read-numbers =
-      let ok = has (0 ∷ 2 ∷ 3 ∷ 9 ∷ 21 ∷ []) in
-      let c = planned (b .head) in
-      subst⁻¹ (λ (n : ℕ). T (ok n)) number-is
+      let ok = one-of (0 ∷ 2 ∷ 3 ∷ 9 ∷ 21 ∷ []) in let c = planned (b .head) in subst⁻¹ (λ (n : ℕ). T (ok n)) number-is
       (num-by ok (then c (judged ls)) tt (then-by ok c (judged ls) (read-by ok v b r tt tt) (λ a. judged-by ok (Plan × Depth) ls a tt)))
 
   -- one without a range is refused, by 2 or by 3
-  pub no-range : (n i : ℕ) → range (b .head) ≡ refuse n i → (call v b .answer .number ≡ n) × T (has (2 ∷ 3 ∷ []) n)
+  pub no-range : (n i : ℕ) → range (b .head) ≡ refuse n i → (call v b .answer .number ≡ n) × T (one-of (2 ∷ 3 ∷ []) n)
   no-range n i e =
-      let is = back (planned (b .head)) e in
-      let ok = has (2 ∷ 3 ∷ []) in
+      let is = back (planned (b .head)) e in let ok = one-of (2 ∷ 3 ∷ []) in
       (number-is ∙ ap (λ (c : Check (Plan × Depth)). num (then c (judged ls))) is, subst (By ok) is (read-by ok v b r tt tt))
     where
       back : (c : Check (Plan × Depth)) → then c (λ a. accept (row-range (a .1))) ≡ refuse n i → c ≡ refuse n i
@@ -247,20 +227,20 @@ module _ (v : ℕ) (b : Block) (r : Plain v b) where
       back (refuse m j) e = cc
 
   -- "a record that meets a number checked before 9 is copied as it stands", and no line is printed
-  pub copied : T (has before9 (call v b .answer .number)) → (mend b ≡ b) × (changesOf b ≡ [])
+  pub copied : T (one-of before9 (call v b .answer .number)) → (mend b ≡ b) × (changes-of b ≡ [])
   copied t = go (planned (b .head)) refl
     where
-      late-number : (a : Plan × Depth) → T (not (has before9 (num (judged ls a))))
-      late-number a = let ok : ℕ → Bool = λ n. not (has before9 n) in num-by ok (judged ls a) tt (judged-by ok (Plan × Depth) ls a tt)
+      late-number : (a : Plan × Depth) → T (not (one-of before9 (num (judged ls a))))
+      late-number a = let ok : ℕ → Bool = λ n. not (one-of before9 n) in num-by ok (judged ls a) tt (judged-by ok (Plan × Depth) ls a tt)
 
       both-ways : (t : Bool) → T (not t) → T t → ⊥
       both-ways true u t = u
       both-ways false u t = t
 
-      go : (c : Check (Plan × Depth)) → planned (b .head) ≡ c → (mend b ≡ b) × (changesOf b ≡ [])
+      go : (c : Check (Plan × Depth)) → planned (b .head) ≡ c → (mend b ≡ b) × (changes-of b ≡ [])
       go (accept a) e =
           let is = number-is ∙ ap (λ (c : Check (Plan × Depth)). num (then c (judged ls))) e in
-          absurd (both-ways (has before9 (num (judged ls a))) (late-number a) (subst (λ (n : ℕ). T (has before9 n)) is t))
+          absurd (both-ways (one-of before9 (num (judged ls a))) (late-number a) (subst (λ (n : ℕ). T (one-of before9 n)) is t))
       go (refuse n i) e =
           let is-none : range (b .head) ≡ refuse n i = ap (λ (c : Check (Plan × Depth)). then c (λ a. accept (row-range (a .1)))) e in
           in-range-stays b (subst⁻¹ (λ (c : Check ℕ). InRange c (b .coefficients)) is-none tt)
@@ -298,40 +278,39 @@ mended-plain v b r = record {
     go (refuse n i) = r .coefficients
 
 -- it can be read again, and holds the records as they were mended
-pub reads-back : (xs : List ℕ) (v : ℕ) (bs : List Block) → readBlocks xs ≡ file v (all bs)
-    → readBlocks (writeBlocks v (map mend bs)) ≡ file v (all (map mend bs))
+pub reads-back : (xs : List ℕ) (v : ℕ) (bs : List Block) → read-blocks xs ≡ file v (all bs)
+    → read-blocks (write-blocks v (map mend bs)) ≡ file v (all (map mend bs))
 reads-back xs v bs e =
-    let r = blocks-only xs v bs e in
-    blocks-back v (map mend bs) (r .0) (all-mapped mend (mended-plain v) bs (r .2))
+    let r = blocks-only xs v bs e in blocks-back v (map mend bs) (r .0) (all-mapped mend (mended-plain v) bs (r .2))
 
 -- ---- the run: the records mended, and the lines of their changes
 
 told-next : (v i : ℕ) (b : Block) (bs : List Block) (e : End) {w : Written}
-    → w ≡ both (writeEach (form v) (map mend bs)) (allLines (suc i) bs ++ toldEnd e .error)
-    → ahead (both (form v .write (mend b)) (lines i (changesOf b))) w
-    ≡ both (writeEach (form v) (map mend (b ∷ bs))) (allLines i (b ∷ bs) ++ toldEnd e .error)
-unfolding writeEach allLines
+    → w ≡ both (write-each (form v) (map mend bs)) (all-lines (suc i) bs ++ told-end e .error)
+    → ahead (both (form v .write (mend b)) (lines i (changes-of b))) w
+    ≡ both (write-each (form v) (map mend (b ∷ bs))) (all-lines i (b ∷ bs) ++ told-end e .error)
+unfolding write-each all-lines
 told-next v i b bs e is =
-    ap (ahead (both (form v .write (mend b)) (lines i (changesOf b)))) is
-    ∙ ap (both (writeEach (form v) (map mend (b ∷ bs)))) (sym (append-assoc (lines i (changesOf b)) (allLines (suc i) bs) (toldEnd e .error)))
+    ap (ahead (both (form v .write (mend b)) (lines i (changes-of b)))) is
+    ∙ ap (both (write-each (form v) (map mend (b ∷ bs)))) (sym (append-assoc (lines i (changes-of b)) (all-lines (suc i) bs) (told-end e .error)))
 
-told-on : (v i : ℕ) (bs : List Block) (e : End)
-    → toldOn salvage v i tt bs e ≡ both (writeEach (form v) (map mend bs)) (allLines i bs ++ toldEnd e .error)
-unfolding toldOn salvage begun writeEach allLines toldEnd Rattle.jobs.specs.Task.judged
-told-on v i [] here = refl
-told-on v i [] (refusedAt j k) = refl
-told-on v i (b ∷ bs) e = told-next v i b bs e (told-on v (suc i) bs e)
+told-on-is : (v i : ℕ) (bs : List Block) (e : End)
+    → told-on salvage v i tt bs e ≡ both (write-each (form v) (map mend bs)) (all-lines i bs ++ told-end e .error)
+unfolding told-on salvage begun write-each all-lines told-end Rattle.jobs.specs.Task.judged
+told-on-is v i [] here = refl
+told-on-is v i [] (refused-at j k) = refl
+told-on-is v i (b ∷ bs) e = told-next v i b bs e (told-on-is v (suc i) bs e)
 
 module _ (xs : List ℕ) (v : ℕ) (bs : List Block) where
   -- of a file that is read to its end
-  pub salvaged-file : readBlocks xs ≡ file v (all bs) → run salvage xs ≡ both (writeBlocks v (map mend bs)) (allLines 1 bs)
-  unfolding run toldFile told salvage readBlocks writeBlocks writeFile toldEnd
+  pub salvaged-file : read-blocks xs ≡ file v (all bs) → run salvage xs ≡ both (write-blocks v (map mend bs)) (all-lines 1 bs)
+  unfolding run told-file told salvage read-blocks write-blocks write-file told-end
   salvaged-file e =
-      ap (toldFile salvage) e ∙ ap (ahead (both (number .write v) [])) (told-on v 1 bs here)
-      ∙ ap (both (writeBlocks v (map mend bs))) (append-nil (allLines 1 bs))
+      ap (told-file salvage) e ∙ ap (ahead (both (number .write v) [])) (told-on-is v 1 bs here)
+      ∙ ap (both (write-blocks v (map mend bs))) (append-nil (all-lines 1 bs))
 
   -- and of one that is refused at record j
-  pub salvaged-part : (j k : ℕ) → readBlocks xs ≡ file v (before bs j k)
-      → run salvage xs ≡ both (writeBlocks v (map mend bs)) (allLines 1 bs ++ refusedLine j k)
-  unfolding run toldFile told salvage readBlocks writeBlocks writeFile toldEnd
-  salvaged-part j k e = ap (toldFile salvage) e ∙ ap (ahead (both (number .write v) [])) (told-on v 1 bs (refusedAt j k))
+  pub salvaged-part : (j k : ℕ) → read-blocks xs ≡ file v (before bs j k)
+      → run salvage xs ≡ both (write-blocks v (map mend bs)) (all-lines 1 bs ++ refused-line j k)
+  unfolding run told-file told salvage read-blocks write-blocks write-file told-end
+  salvaged-part j k e = ap (told-file salvage) e ∙ ap (ahead (both (number .write v) [])) (told-on-is v 1 bs (refused-at j k))

@@ -10,18 +10,14 @@ use borrow.Author.Tests.{eqb-true, eqb-false}
 use Rattle.blockfile.specs.Read.{Read, got, refused}
 use Rattle.blockfile.specs.Form.{Form}
 use Rattle.blockfile.specs.Form as Form
-use Rattle.blockfile.specs.File.{Records, all, after, onward, recordsIn, records, first, readFile}
+use Rattle.blockfile.specs.File.{Records, all, after, onward, records-in, records, first, read-file}
 use Rattle.blockfile.specs.File as File
 use Rattle.blockfile.proofs.Forms.{Lawful, whole}
-use Rattle.blockfile.proofs.Rooms.{Room, Some, number-room, onlyIf-room, some-number, some-onlyIf}
+use Rattle.blockfile.proofs.Rooms.{Room, Some, number-room, only-if-room}
 use Rattle.blockfile.proofs.Files.{records-step, first-lawful}
-use Rattle.jobs.specs.Task.{Written, ahead, Done, done, bad, here, refusedAt, Task, begun, judged, toldOn, told, toldFile, run}
-use Rattle.jobs.specs.Steps.{Place, outset, before, Step, wrote, wanted, closed, number, mind, ending, falling, opened, acting, came, step}
-
--- what is left of bs after something of it was taken
-pub record Left (bs rest : List ℕ) : Type 0 where
-  pub front : List ℕ
-  pub is : bs ≡ front ++ rest
+use Rattle.jobs.specs.Task.{Written, Done, done, bad, here, refused-at, Task, begun, judged, told-on, told, told-file, run}
+use Rattle.jobs.specs.Steps.{Place, outset, before, wanted, number, mind, ending, falling, opened, acting, came}
+use Rattle.jobs.specs.Steps.{step, Left, remaining, Follows}
 
 took : {A : Type 0} {c : Form A} {W : A → Type 0} → Lawful c W → (bs : List ℕ) (a : A) (rest : List ℕ) → c .read bs ≡ got a rest → Left bs rest
 took {c} l bs a rest e = record { front = c .write a; is = l .only bs a rest e .0 }
@@ -30,69 +26,58 @@ module _ {R S : Type 0} (t : Task R S) where
   -- a first record, and then the others
   told-after : (v i : ℕ) (s : S) (r : R) (rs : Records R)
       → told t v i s (after r rs) ≡ begun t i s (judged t i s (t .act v i s r) (λ s. told t v (suc i) s rs))
-  unfolding told toldOn after
+  unfolding told told-on after
   told-after v i s r (all rs) = refl
   told-after v i s r (File.before rs j k) = refl
 
-  -- what is written from a place on, of the bytes bs
-  unfoldable pub remaining : Place S → List ℕ → Written
-  unfolding run told records
-  remaining outset bs = run t bs
-  remaining (before v i s) bs = told t v i s (records (t .form v) i bs)
-
-  -- The bytes at hand are bs, and `more` is yet to come. What was written is the first of what is left to write, and the bytes that are left go on with
-  -- what comes; more bytes are wanted only before the last, and where fewer are there than a record can take; and what closes a run is all that is left,
-  -- if nothing comes after the last.
-  abbrev pub Follows : Bool → Place S → List ℕ → Step S → Type 0
-  Follows last p bs (wrote w q rest) = ((more : List ℕ) → remaining p (bs ++ more) ≡ ahead w (remaining q (rest ++ more))) × Left bs rest
-  Follows last p bs wanted = (last ≡ false) × (length bs < 10265)
-  Follows last p bs (closed w) = (more : List ℕ) → (last ≡ true → more ≡ []) → remaining p (bs ++ more) ≡ w
-
   -- reading refused by k: 15 may change with more bytes, and no other number does
   falls : (last : Bool) (p : Place S) (bs : List ℕ) (k : ℕ)
-      → (k ≡ 15 → (remaining p bs ≡ t .closing (mind t p) (refusedAt (number p) k)) × (length bs < 10265))
-      → ((k ≡ 15 → ⊥) → (more : List ℕ) → remaining p (bs ++ more) ≡ t .closing (mind t p) (refusedAt (number p) k)) → Follows last p bs (falling t last p k)
+      → (k ≡ 15 → (remaining t p bs ≡ t .closing (mind t p) (refused-at (number p) k)) × (length bs < 10265))
+      → ((k ≡ 15 → ⊥) → (more : List ℕ) → remaining t p (bs ++ more) ≡ t .closing (mind t p) (refused-at (number p) k))
+      → Follows t last p bs (falling t last p k)
   unfolding falling
   falls last p bs k short stays = go (eqb k 15) last refl
     where
-      go : (b l : Bool) → eqb k 15 ≡ b → Follows l p bs (cond (b && not l) wanted (ending t p (refusedAt (number p) k)))
-      go true true e = λ more end. ap (λ (m : List ℕ). remaining p (bs ++ m)) (end refl) ∙ ap (remaining p) (append-nil bs) ∙ short (eqb-true k 15 e) .0
+      go : (b l : Bool) → eqb k 15 ≡ b → Follows t l p bs (cond (b && not l) wanted (ending t p (refused-at (number p) k)))
+      go true true e = λ more end. ap (λ (m : List ℕ). remaining t p (bs ++ m)) (end refl) ∙ ap (remaining t p) (append-nil bs)
+          ∙ short (eqb-true k 15 e) .0
       go true false e = (refl, short (eqb-true k 15 e) .1)
       go false l e = λ more end. stays (eqb-false k 15 e) more
 
-  module _ {W : ℕ → R → Type 0} (l : (v : ℕ) → Lawful (t .form v) (W v)) (some : (v : ℕ) → Some (t .form v)) (room : (v : ℕ) → Room (t .form v) (W v) 10265) (last : Bool) where
-    at-first : (bs : List ℕ) → Follows last outset bs (opened t last (first (t .known) .read bs))
-    unfolding opened remaining run readFile File.opened toldFile first
+  module _ {W : ℕ → R → Type 0} (l : (v : ℕ) → Lawful (t .form v) (W v)) (some : (v : ℕ) → Some (t .form v))
+      (room : (v : ℕ) → Room (t .form v) (W v) 10265) (last : Bool) where
+    at-first : (bs : List ℕ) → Follows t last outset bs (opened t last (first (t .known) .read bs))
+    unfolding opened remaining run read-file File.opened told-file first
     at-first bs = go (first (t .known) .read bs) refl
       where
         few : (k : ℕ) → first (t .known) .read bs ≡ refused k → k ≡ 15 → length bs < 10265
-        few k e q = let n = onlyIf-room (t .known) 18 5 (λ q. omega arith) number-room .enough bs (e ∙ ap refused q) in omega arith
+        few k e q = let n = only-if-room (t .known) 18 5 (λ q. omega arith) number-room .enough bs (e ∙ ap refused q) in omega arith
 
-        go : (r : Read ℕ) → first (t .known) .read bs ≡ r → Follows last outset bs (opened t last r)
+        go : (r : Read ℕ) → first (t .known) .read bs ≡ r → Follows t last outset bs (opened t last r)
         go (got v rest) e = (λ more. rw (whole (first-lawful (t .known)) bs more v rest e), took (first-lawful (t .known)) bs v rest e)
         go (refused k) e = falls last outset bs k (λ q. (rw e, few k e q)) (λ h more. rw (first-lawful (t .known) .stays bs more k e h))
 
     module _ (v i : ℕ) (s : S) (b : ℕ) (bs : List ℕ) where
       is-refused : (more : List ℕ) (k : ℕ) → t .form v .read (b ∷ bs ++ more) ≡ refused k
-          → remaining (before v i s) (b ∷ bs ++ more) ≡ begun t i s (t .closing s (refusedAt i k))
-      unfolding remaining onward told toldOn
+          → remaining t (before v i s) (b ∷ bs ++ more) ≡ begun t i s (t .closing s (refused-at i k))
+      unfolding remaining onward told told-on
       is-refused more k e = rw (records-step (l v) (some v) i b (bs ++ more), e)
 
       is-got : (more : List ℕ) (r : R) (rest : List ℕ) → t .form v .read (b ∷ bs ++ more) ≡ got r rest
-          → remaining (before v i s) (b ∷ bs ++ more)
+          → remaining t (before v i s) (b ∷ bs ++ more)
           ≡ begun t i s (judged t i s (t .act v i s r) (λ s. told t v (suc i) s (records (t .form v) (suc i) rest)))
       unfolding remaining onward
       is-got more r rest e = rw (records-step (l v) (some v) i b (bs ++ more), e, told-after)
 
       -- one record too many
-      too-many : t .past i ≡ true → (more : List ℕ) → remaining (before v i s) (b ∷ bs ++ more) ≡ t .closing s (refusedAt i 22)
+      too-many : t .past i ≡ true → (more : List ℕ) → remaining t (before v i s) (b ∷ bs ++ more) ≡ t .closing s (refused-at i 22)
       unfolding begun
       too-many h more = go (t .form v .read (b ∷ bs ++ more)) refl
         where
-          over : (w : Written) → begun t i s w ≡ t .closing s (refusedAt i 22)
+          over : (w : Written) → begun t i s w ≡ t .closing s (refused-at i 22)
           over w = rw h
 
-          go : (r : Read R) → t .form v .read (b ∷ bs ++ more) ≡ r → remaining (before v i s) (b ∷ bs ++ more) ≡ t .closing s (refusedAt i 22)
+          go : (r : Read R) → t .form v .read (b ∷ bs ++ more) ≡ r → remaining t (before v i s) (b ∷ bs ++ more) ≡ t .closing s (refused-at i 22)
           go (got r rest) e = is-got more r rest e ∙ over _
           go (refused k) e = is-refused more k e ∙ over _
 
@@ -101,36 +86,36 @@ module _ {R S : Type 0} (t : Task R S) where
         unfolding begun
         under w = rw h
 
-        at-record : Follows last (before v i s) (b ∷ bs) (came t last v i s (t .form v .read (b ∷ bs)))
+        at-record : Follows t last (before v i s) (b ∷ bs) (came t last v i s (t .form v .read (b ∷ bs)))
         unfolding came acting remaining judged
         at-record = go (t .form v .read (b ∷ bs)) refl
           where
             done-or : (r : R) (rest : List ℕ) → t .form v .read (b ∷ bs) ≡ got r rest → (d : Done (S × Written)) → t .act v i s r ≡ d
-                → Follows last (before v i s) (b ∷ bs) (acting t v i s rest d)
+                → Follows t last (before v i s) (b ∷ bs) (acting t v i s rest d)
             done-or r rest e (done a) q = (
               λ more. is-got more r (rest ++ more) (whole (l v) (b ∷ bs) more r rest e) ∙ under _ ∙ rw q,
               took (l v) (b ∷ bs) r rest e,
             )
             done-or r rest e (bad k) q = λ more end. is-got more r (rest ++ more) (whole (l v) (b ∷ bs) more r rest e) ∙ under _ ∙ rw q
 
-            go : (r : Read R) → t .form v .read (b ∷ bs) ≡ r → Follows last (before v i s) (b ∷ bs) (came t last v i s r)
+            go : (r : Read R) → t .form v .read (b ∷ bs) ≡ r → Follows t last (before v i s) (b ∷ bs) (came t last v i s r)
             go (got r rest) e = done-or r rest e (t .act v i s r) refl
             go (refused k) e =
                 falls last (before v i s) (b ∷ bs) k
                 (λ q. (rw (← append-nil bs) (is-refused [] k (rw append-nil e) ∙ under _), room v .enough (b ∷ bs) (e ∙ ap refused q)))
                 (λ g more. is-refused more k (l v .stays (b ∷ bs) more k e g) ∙ under _)
 
-    pub follows : (p : Place S) (bs : List ℕ) → Follows last p bs (step t last p bs)
-    unfolding step remaining records recordsIn told toldOn
+    pub follows : (p : Place S) (bs : List ℕ) → Follows t last p bs (step t last p bs)
+    unfolding step remaining records records-in told told-on
     follows outset bs = at-first bs
     follows (before v i s) [] = go last
       where
-        go : (l : Bool) → Follows l (before v i s) [] (cond l (ending t (before v i s) here) wanted)
-        go true = λ more end. ap (remaining (before v i s)) (end refl)
+        go : (l : Bool) → Follows t l (before v i s) [] (cond l (ending t (before v i s) here) wanted)
+        go true = λ more end. ap (remaining t (before v i s)) (end refl)
         go false = (refl, omega arith)
     follows (before v i s) (b ∷ bs) = go (t .past i) refl
       where
-        go : (h : Bool) → t .past i ≡ h
-            → Follows last (before v i s) (b ∷ bs) (cond h (ending t (before v i s) (refusedAt i 22)) (came t last v i s (t .form v .read (b ∷ bs))))
+        go : (h : Bool) → t .past i ≡ h → Follows t last (before v i s) (b ∷ bs)
+            (cond h (ending t (before v i s) (refused-at i 22)) (came t last v i s (t .form v .read (b ∷ bs))))
         go true h = λ more end. too-many v i s b bs h more
         go false h = at-record v i s b bs h

@@ -24,16 +24,15 @@ use Rattle.blockfile.specs.File.{Records, all, before, after}
 use Rattle.blockfile.proofs.Records.{both}
 use Rattle.jobs.specs.Rows.{spread}
 use Rattle.jobs.specs.Task.{done, bad}
-use Rattle.jobs.specs.Act.{given, call, left, act, judgedBlock, actedOn}
-use Rattle.jobs.specs.Rewrite.{asOne, pictures}
+use Rattle.jobs.specs.Act.{given, call, left, act, judged-block, acted-on}
+use Rattle.jobs.specs.Rewrite.{as-one, pictures}
 
 -- ---- a record of version 2 is its rewriting
 
 -- the rows after the live ones are zero
 pub spread-covers : (w h r : ℕ) (cs : List ℤ) → Covers w h (spread w h r cs) r
 spread-covers w h r cs y x from below inside =
-    let i = y + x * h in
-    let few : i < w * h = omega (arith, mul-le-mul-right {m = suc x} {n = w} h inside) in
+    let i = y + x * h in let few : i < w * h = omega (arith, mul-le-mul-right {m = suc x} {n = w} h inside) in
     let row : i % h ≡ y = add-mul-mod-self-right y x h ∙ mod-eq-of-lt below in
     tab-at (w * h) (λ j. cond (ltb (j % h) r) (at cs (j % h * w + j / h)) (pos 0)) (pos 0) i few
     ∙ ap (λ (t : Bool). cond t (at cs (i % h * w + i / h)) (pos 0)) (ap (λ (j : ℕ). ltb j r) row ∙ le-ltb y r from)
@@ -44,15 +43,14 @@ rows-in b p =
     (leb-true 1 (b .head .announced) (e .0), leb-true (b .head .announced) (b .head .h) (e .1))
 
 -- the whole outcome is the same: answer, pixels and the block's coefficients
-pub same-call : (b : Block) → Plain 2 b → call 2 b ≡ call 1 (asOne b)
+pub same-call : (b : Block) → Plain 2 b → call 2 b ≡ call 1 (as-one b)
 same-call b p =
-    let r = rows-in b p in
-    let h = b .head in
+    let r = rows-in b p in let h = b .head in
     live-plain (given 2 b) (h .announced) (r .0) (r .1) (spread-covers (h .w) (h .h) (h .announced) (b .coefficients))
 
 -- so 10 does not occur
 pub never-stray : (b : Block) → Plain 2 b → call 2 b .answer .number ≡ 10 → ⊥
-never-stray b p e = plain-never-10 (given 1 (asOne b)) (pos 1) (sym (ap (λ (o : Outcome). o .answer .number) (same-call b p)) ∙ e)
+never-stray b p e = plain-never-10 (given 1 (as-one b)) (pos 1) (sym (ap (λ (o : Outcome). o .answer .number) (same-call b p)) ∙ e)
 
 -- ---- a file of version 1 can hold it
 
@@ -82,7 +80,7 @@ spread-fits w h r n cs fit = each-tab (SFits w32) (w * h) _ (λ i. go (i % h * w
     go j true = fits-at n cs fit j
     go j false = zero-fits
 
-pub one-plain : (b : Block) → Plain 2 b → Plain 1 (asOne b)
+pub one-plain : (b : Block) → Plain 2 b → Plain 1 (as-one b)
 one-plain b p = record {
   size = p .size;
   txtp = p .txtp;
@@ -114,18 +112,18 @@ pictures-after b (all bs) = refl
 pictures-after b (before bs i k) = refl
 
 same-one : (i k : ℕ) (x y : Block) → x .pixels ≡ y .pixels → (m n : Records Block) → pictures m ≡ pictures n → (t : Bool)
-    → pictures (judgedBlock i (cond t (done x) (bad k)) m) ≡ pictures (judgedBlock i (cond t (done y) (bad k)) n)
-unfolding judgedBlock
+    → pictures (judged-block i (cond t (done x) (bad k)) m) ≡ pictures (judged-block i (cond t (done y) (bad k)) n)
+unfolding judged-block
 same-one i k x y e m n f true = pictures-after x m ∙ (λ j. after (e j) (f j)) ∙ sym (pictures-after y n)
 same-one i k x y e m n f false = refl
 
 -- the records before any end
 pub same-pictures : (i : ℕ) (bs : List Block) (end : Records Block) → Each (Plain 2) (length bs) bs
-    → pictures (actedOn 2 i bs end) ≡ pictures (actedOn 1 i (map asOne bs) end)
-unfolding actedOn act left Each
+    → pictures (acted-on 2 i bs end) ≡ pictures (acted-on 1 i (map as-one bs) end)
+unfolding acted-on act left Each
 same-pictures i [] end h = refl
 same-pictures i (b ∷ bs) end h =
-    let o = call 1 (asOne b) in
-    ap (λ (o : Outcome). pictures (judgedBlock i (left 2 b o) (actedOn 2 (suc i) bs end))) (same-call b (h .0))
-    ∙ same-one i (o .answer .number) _ _ refl (actedOn 2 (suc i) bs end) (actedOn 1 (suc i) (map asOne bs) end) (same-pictures (suc i) bs end (h .1))
-    (eqb (o .answer .number) 0)
+    let o = call 1 (as-one b) in
+    ap (λ (o : Outcome). pictures (judged-block i (left 2 b o) (acted-on 2 (suc i) bs end))) (same-call b (h .0))
+    ∙ same-one i (o .answer .number) _ _ refl (acted-on 2 (suc i) bs end) (acted-on 1 (suc i) (map as-one bs) end)
+    (same-pictures (suc i) bs end (h .1)) (eqb (o .answer .number) 0)

@@ -6,5 +6,7 @@ pub mod Act
 pub mod Rewrite
 pub mod Salvage
 pub mod Totalling
+pub mod Jobs
 pub mod Output
-pub mod Answer
+pub mod Stepping
+pub mod Inner

@@ -37,5 +37,6 @@ module _ {R S : Type 0} (t : Task R S) where
   -- what was handed on of an input, part by part: each comes next after those before it, by what was read till then
   pub data Handed (input : List ℕ) : Written → Type 0 where
     none : Handed input nothing
-    part : {so-far : Written} → Handed input so-far → (past more : List ℕ) → input ≡ past ++ more → {w : Written} → NextOf past (length (so-far .output)) (length (so-far .error)) w
+    part : {so-far : Written} → Handed input so-far → (past more : List ℕ) → input ≡ past ++ more → {w : Written}
+        → NextOf past (length (so-far .output)) (length (so-far .error)) w
         → Handed input (ahead so-far w)

@@ -3,13 +3,13 @@ use mathlib.Core.Path.{_≡_}
 use mathlib.Core.List.{List, map}
 use Prim.Native.Nat.{ℕ}
 use Rattle.blockfile.specs.Record.{Block}
-use Rattle.blockfile.specs.File.{Records, all, before, file, readBlocks}
+use Rattle.blockfile.specs.File.{Records, all, before, file, read-blocks}
 use Rattle.jobs.specs.Rows.{spread}
 use Rattle.jobs.specs.Task.{Written}
 
 -- the same block with eob 1 and all of its w·h coefficients, in buffer order
-abbrev pub asOne : Block → Block
-asOne b =
+abbrev pub as-one : Block → Block
+as-one b =
     let h = b .head in
     record {
       head = record { w = h .w; h = h .h; txtp = h .txtp; depth = h .depth; announced = 1 };
@@ -22,20 +22,20 @@ abbrev pub listed : {R : Type 0} → Records R → List R
 listed (all rs) = rs
 listed (before rs i k) = rs
 
-abbrev pub pixelsOf : List Block → List (List ℕ)
-pixelsOf = map (λ b. b .pixels)
+abbrev pub pixels-of : List Block → List (List ℕ)
+pixels-of = map (λ b. b .pixels)
 
 -- the pixels of each record, up to a refusal: with its record's number and its own
 abbrev pub pictures : Records Block → Records (List ℕ)
-pictures (all bs) = all (pixelsOf bs)
-pictures (before bs i k) = before (pixelsOf bs) i k
+pictures (all bs) = all (pixels-of bs)
+pictures (before bs i k) = before (pixels-of bs) i k
 
 -- Two runs, one that writes a file of version v and one of version u: both outputs can be read, their records have the same pixels, and standard
 -- error says the same.
 pub record SamePixels (v u : ℕ) (one other : Written) : Type 0 where
   pub blocks : List Block
   pub others : List Block
-  pub reads : readBlocks (one .output) ≡ file v (all blocks)
-  pub other-reads : readBlocks (other .output) ≡ file u (all others)
-  pub pixels : pixelsOf blocks ≡ pixelsOf others
+  pub reads : read-blocks (one .output) ≡ file v (all blocks)
+  pub other-reads : read-blocks (other .output) ≡ file u (all others)
+  pub pixels : pixels-of blocks ≡ pixels-of others
   pub error : one .error ≡ other .error

@@ -17,11 +17,11 @@ spread w h r cs = tab (w * h) (λ i. cond (ltb (i % h) r) (at cs (i % h * w + i 
 abbrev pub gathered : ℕ → ℕ → ℕ → List ℤ → List ℤ
 gathered w h r cs = tab (r * w) (λ j. at cs (j / w + j % w * h))
 
-abbrev pub inBuffer : ℕ → Head → List ℤ → List ℤ
-inBuffer v h cs = cond (eqb v 2) (spread (h .w) (h .h) (h .announced) cs) cs
+abbrev pub buffered : ℕ → Head → List ℤ → List ℤ
+buffered v h cs = cond (eqb v 2) (spread (h .w) (h .h) (h .announced) cs) cs
 
-abbrev pub inFile : ℕ → Head → List ℤ → List ℤ
-inFile v h cs = cond (eqb v 2) (gathered (h .w) (h .h) (h .announced) cs) cs
+abbrev pub in-file : ℕ → Head → List ℤ → List ℤ
+in-file v h cs = cond (eqb v 2) (gathered (h .w) (h .h) (h .announced) cs) cs
 
 -- the first r rows of w by h stand in `rows`, and nothing else does
 pub record Live (rows : List ℤ) (w h r : ℕ) : Type 0 where

@@ -1,10 +1,11 @@
--- What a program makes of a block file. A task says which files it takes, what is done with a record, and what is written of each record and at the end,
--- on which stream. How a file is read, where a program stops, and how its input may arrive in pieces is said and proved once, for every task.
+-- What a program makes of a block file. A task says which files it takes, what is done with a record, and what is written of each record
+-- and at the end, on which stream. How a file is read, where a program stops, and how its input may arrive in pieces is said and proved
+-- once, for every task.
 use mathlib.Core.Bool.{Bool, cond}
 use mathlib.Core.List.{List, [], _∷_, _++_}
 use Prim.Native.Nat.{ℕ, suc}
 use Rattle.blockfile.specs.Form.{Form}
-use Rattle.blockfile.specs.File.{Records, all, before, File, unknown, file, readFile}
+use Rattle.blockfile.specs.File.{Records, all, before, File, unknown, file, read-file}
 
 -- the bytes on standard output and on standard error
 pub record Written : Type 0 where
@@ -29,7 +30,7 @@ pub data Done (A : Type 0) : Type 0 where
 -- how a file ends: here, or number i is refused by k (0 is the file's first number)
 pub data End : Type 0 where
   here : End
-  refusedAt : ℕ → ℕ → End
+  refused-at : ℕ → ℕ → End
 
 -- R is a record, S what the task keeps in mind from record to record
 pub record Task (R S : Type 0) : Type 0 where
@@ -48,30 +49,30 @@ pub record Task (R S : Type 0) : Type 0 where
 module _ {R S : Type 0} (t : Task R S) where
   -- number i begins, and w is what is written from it on
   unfoldable pub begun : ℕ → S → Written → Written
-  begun i s w = cond (t .past i) (t .closing s (refusedAt i 22)) w
+  begun i s w = cond (t .past i) (t .closing s (refused-at i 22)) w
 
   unfoldable pub judged : ℕ → S → Done (S × Written) → (S → Written) → Written
   judged i s (done a) go = ahead (a .1) (go (a .0))
-  judged i s (bad k) go = t .closing s (refusedAt i k)
+  judged i s (bad k) go = t .closing s (refused-at i k)
 
   -- records of version v from number i on, and how the file ends after them
-  unfoldable pub toldOn : ℕ → ℕ → S → List R → End → Written
+  unfoldable pub told-on : ℕ → ℕ → S → List R → End → Written
   unfolding begun judged
-  toldOn v i s [] here = t .closing s here
-  toldOn v i s [] (refusedAt j k) = begun i s (t .closing s (refusedAt j k))
-  toldOn v i s (r ∷ rs) end = begun i s (judged i s (t .act v i s r) (λ s. toldOn v (suc i) s rs end))
+  told-on v i s [] here = t .closing s here
+  told-on v i s [] (refused-at j k) = begun i s (t .closing s (refused-at j k))
+  told-on v i s (r ∷ rs) end = begun i s (judged i s (t .act v i s r) (λ s. told-on v (suc i) s rs end))
 
   unfoldable pub told : ℕ → ℕ → S → Records R → Written
-  unfolding toldOn
-  told v i s (all rs) = toldOn v i s rs here
-  told v i s (before rs j k) = toldOn v i s rs (refusedAt j k)
+  unfolding told-on
+  told v i s (all rs) = told-on v i s rs here
+  told v i s (before rs j k) = told-on v i s rs (refused-at j k)
 
-  unfoldable pub toldFile : File R → Written
+  unfoldable pub told-file : File R → Written
   unfolding told
-  toldFile (unknown k) = t .closing (t .start) (refusedAt 0 k)
-  toldFile (file v rs) = ahead (t .opening v) (told v 1 (t .start) rs)
+  told-file (unknown k) = t .closing (t .start) (refused-at 0 k)
+  told-file (file v rs) = ahead (t .opening v) (told v 1 (t .start) rs)
 
   -- what the program writes of a whole input
   unfoldable pub run : List ℕ → Written
-  unfolding toldFile readFile
-  run bs = toldFile (readFile (t .known) (t .form) bs)
+  unfolding told-file read-file
+  run bs = told-file (read-file (t .known) (t .form) bs)

@@ -6,9 +6,9 @@ use lib.Dec.{eqb, ltb}
 use Rattle.itx.specs.Calls.{Outcome}
 use Rattle.blockfile.specs.Record.{Block, form}
 use Rattle.blockfile.specs.File.{known}
-use Rattle.text.specs.Text.{refusedLine}
+use Rattle.text.specs.Text.{refused-line}
 use Rattle.tally.specs.Totals.{Tally, tally, totals, report}
-use Rattle.jobs.specs.Task.{Written, both, nothing, Done, done, bad, End, here, refusedAt, Task}
+use Rattle.jobs.specs.Task.{Written, both, nothing, Done, done, bad, End, here, refused-at, Task}
 use Rattle.jobs.specs.Act.{call}
 
 -- "Refusals: as E1"
@@ -17,9 +17,9 @@ counted ts b o = cond (eqb (o .answer .number) 0) (done (ts ++ (tally b o ∷ []
 
 -- "E1's line goes to standard output and is all that is written"
 unfoldable pub summed : List Tally → End → Written
-unfolding report refusedLine
+unfolding report refused-line
 summed ts here = both (report (totals ts)) []
-summed ts (refusedAt i k) = both (refusedLine i k) []
+summed ts (refused-at i k) = both (refused-line i k) []
 
 -- "Read a block file and print"; "22 as soon as a record past the 4294967295th begins": `most` is 4294967295
 unfoldable pub totalling : ℕ → Task Block (List Tally)

@@ -6,7 +6,7 @@ ghost use lib.ListN.{replicate};
 ghost use Rattle.strided.specs.Planes.{whole};
 ghost use Rattle.itx.specs.Answers.{answer-of};
 ghost use Rattle.blockfile.specs.Record.{area};
-ghost use Rattle.jobs.specs.Answer.{Ready, Acted};
+ghost use Rattle.jobs.specs.Inner.{Ready, Acted};
 use crate::rows::spread;
 use blockfile::record::Head;
 use coefs::clear;
@@ -74,7 +74,8 @@ fn act_live(head: Head, coefficients: &mut [i32], pixels: &mut [u16]) -> Answer
 // The call that the version asks for. Any but 2 is read as version 1.
 pub fn act(version: u32, head: Head, coefficients: &mut [i32], pixels: &mut [u16]) -> Answer
     requires { ⌜ Ready version head (now coefficients) ⌝ }
-    ensures { λ a. ⌜ Acted version head (now (coefficients .entry)) (now (pixels .entry)) (now (coefficients .exit)) (now (pixels .exit)) (answer-of a) ⌝ }
+    ensures { λ a. ⌜ Acted version head (now (coefficients .entry)) (now (pixels .entry)) (now (coefficients .exit))
+        (now (pixels .exit)) (answer-of a) ⌝ }
 {
     if version == 2 {
         return act_live(head, coefficients, pixels);

@@ -8,8 +8,12 @@ ghost use lib.ListN.{length};
 ghost use Rattle.blockfile.specs.File.{known};
 ghost use Rattle.jobs.specs.Steps.{outset, before};
 ghost use Rattle.jobs.specs.declared.step.Job.the-variants as Job;
-ghost use Rattle.tally.specs.Totals.{Sane};
-ghost use Rattle.jobs.specs.Answer.{Mind, taskOf, isTotals, saneFor, Whole, blockOf, Refused, Fallen, Ended, StepAt, DoneAt, placeAt, Roomy, roomy, Turned};
+ghost use Rattle.tally.specs.Inner.{Sane};
+ghost use Rattle.jobs.specs.Inner.{Whole, block-of, Refused, Fallen, Ended, DoneAt};
+ghost use Rattle.jobs.specs.Stepping.{is-totals, sane-for, StepAt};
+ghost use Rattle.jobs.specs.Jobs.{Mind, task-of};
+ghost use Rattle.jobs.specs.Inner.{Roomy};
+ghost use Rattle.jobs.specs.Stepping.{place-at, roomy, Turned};
 use crate::act::act;
 use blockfile::number;
 use blockfile::number::Number;
@@ -56,7 +60,7 @@ pub enum Turn {
 
 // Whether a job says on standard output what it has to say, and nothing else.
 fn is_totals(job: Job) -> bool
-    ensures { λ r. ⌜ r ≡ isTotals job ⌝ }
+    ensures { λ r. ⌜ r ≡ is-totals job ⌝ }
 {
     match job {
         Job::Blocks => false,
@@ -98,7 +102,8 @@ fn fallen(
     told: usize,
 ) -> Turn
     requires { ⌜ Roomy (now output) put (now error) told ⌝ }
-    ensures { λ r. ⌜ Fallen job k «is_last» «record» (now (output .entry)) put (now (error .entry)) told (now (output .exit)) (now (error .exit)) r ⌝ }
+    ensures { λ r. ⌜ Fallen job k «is_last» «record» (now (output .entry)) put (now (error .entry)) told
+        (now (output .exit)) (now (error .exit)) r ⌝ }
 {
     if k == 15 {
         if !is_last {
@@ -110,7 +115,7 @@ fn fallen(
 
 // The file has ended.
 fn finish(job: Job, sums: &[u64], output: &mut [u8], put: usize, error: &[u8], told: usize) -> Turn
-    requires { ⌜ (saneFor job (now sums) ≡ true) × Roomy (now output) put (now error) told ⌝ }
+    requires { ⌜ (sane-for job (now sums) ≡ true) × Roomy (now output) put (now error) told ⌝ }
     ensures { λ r. ⌜ Ended job (now (sums .entry)) (now (output .entry)) put (now (error .entry)) told (now (output .exit)) (now (error .entry)) r ⌝ }
 {
     if is_totals(job) {
@@ -122,7 +127,7 @@ fn finish(job: Job, sums: &[u64], output: &mut [u8], put: usize, error: &[u8], t
 
 // Whether a record of this number is one too many.
 fn is_past(job: Job, record: u64) -> bool
-    ensures { λ r. ⌜ r ≡ taskOf job .past «record» ⌝ }
+    ensures { λ r. ⌜ r ≡ task-of job .past «record» ⌝ }
 {
     match job {
         Job::Blocks => false,
@@ -150,7 +155,8 @@ fn begin(
     told: usize,
 ) -> Turn
     requires { ⌜ Roomy (now output) put (now error) told ⌝ }
-    ensures { λ r. ⌜ ((sums : List ℕ) → StepAt job outset (now (input .entry)) at «is_last» sums (now (output .entry)) put (now (error .entry)) told sums (now (output .exit)) (now (error .exit)) r) ⌝ }
+    ensures { λ r. ⌜ ((sums : List ℕ) → StepAt job outset (now (input .entry)) at «is_last» sums (now (output .entry)) put
+        (now (error .entry)) told sums (now (output .exit)) (now (error .exit)) r) ⌝ }
 {
     let first = read_number(input, at);
     let Number::Got { value, next } = first else {
@@ -194,7 +200,9 @@ fn call_block(
     told: usize,
 ) -> Turn
     requires { ⌜ Whole version head (now coefficients) (now pixels) × Roomy (now output) put (now error) told ⌝ }
-    ensures { λ r. ⌜ ((sums : List ℕ) → DoneAt Job.Blocks version «record» (blockOf head (now (coefficients .entry)) (now (pixels .entry))) next sums (now (output .entry)) put (now (error .entry)) told sums (now (output .exit)) (now (error .exit)) r) ⌝ }
+    ensures { λ r. ⌜ ((sums : List ℕ) → DoneAt Job.Blocks version «record»
+        (block-of head (now (coefficients .entry)) (now (pixels .entry))) next sums (now (output .entry)) put
+        (now (error .entry)) told sums (now (output .exit)) (now (error .exit)) r) ⌝ }
 {
     let answer = act(version, head, coefficients, pixels);
     let refusal = itx::number(answer);
@@ -224,7 +232,9 @@ fn mend_block(
     told: usize,
 ) -> Turn
     requires { ⌜ Whole version head (now coefficients) (now pixels) × Roomy (now output) put (now error) told ⌝ }
-    ensures { λ r. ⌜ ((sums : List ℕ) → DoneAt Job.Salvage version «record» (blockOf head (now (coefficients .entry)) (now (pixels .entry))) next sums (now (output .entry)) put (now (error .entry)) told sums (now (output .exit)) (now (error .exit)) r) ⌝ }
+    ensures { λ r. ⌜ ((sums : List ℕ) → DoneAt Job.Salvage version «record»
+        (block-of head (now (coefficients .entry)) (now (pixels .entry))) next sums (now (output .entry)) put
+        (now (error .entry)) told sums (now (output .exit)) (now (error .exit)) r) ⌝ }
 {
     let last = salvage(head, record, coefficients, error, told);
     let end = write_record(output, put, head, coefficients, pixels);
@@ -252,8 +262,11 @@ fn count_block(
     error: &mut [u8],
     told: usize,
 ) -> Turn
-    requires { ⌜ Whole version head (now coefficients) (now pixels) × (Sane (now sums) × ((length (now pixels) ≡ length (now before)) × Roomy (now output) put (now error) told)) ⌝ }
-    ensures { λ r. ⌜ DoneAt (Job.Totals most) version «record» (blockOf head (now (coefficients .entry)) (now (pixels .entry))) next (now (sums .entry)) (now (output .entry)) put (now (error .entry)) told (now (sums .exit)) (now (output .exit)) (now (error .exit)) r ⌝ }
+    requires { ⌜ Whole version head (now coefficients) (now pixels)
+        × (Sane (now sums) × ((length (now pixels) ≡ length (now before)) × Roomy (now output) put (now error) told)) ⌝ }
+    ensures { λ r. ⌜ DoneAt (Job.Totals most) version «record»
+        (block-of head (now (coefficients .entry)) (now (pixels .entry))) next (now (sums .entry)) (now (output .entry)) put
+        (now (error .entry)) told (now (sums .exit)) (now (output .exit)) (now (error .exit)) r ⌝ }
 {
     keep(&*pixels, &mut *before);
     let answer = act(version, head, coefficients, &mut *pixels);
@@ -286,8 +299,10 @@ fn do_block(
     error: &mut [u8],
     told: usize,
 ) -> Turn
-    requires { ⌜ Whole version head (now coefficients) (now pixels) × ((saneFor job (now sums) ≡ true) × Roomy (now output) put (now error) told) ⌝ }
-    ensures { λ r. ⌜ DoneAt job version «record» (blockOf head (now (coefficients .entry)) (now (pixels .entry))) next (now (sums .entry)) (now (output .entry)) put (now (error .entry)) told (now (sums .exit)) (now (output .exit)) (now (error .exit)) r ⌝ }
+    requires { ⌜ Whole version head (now coefficients) (now pixels) × ((sane-for job (now sums) ≡ true) × Roomy (now output) put (now error) told) ⌝ }
+    ensures { λ r. ⌜ DoneAt job version «record» (block-of head (now (coefficients .entry)) (now (pixels .entry))) next
+        (now (sums .entry)) (now (output .entry)) put (now (error .entry)) told (now (sums .exit)) (now (output .exit))
+        (now (error .exit)) r ⌝ }
 {
     match job {
         Job::Blocks => call_block(
@@ -350,8 +365,10 @@ fn go_on(
     error: &mut [u8],
     told: usize,
 ) -> Turn
-    requires { ⌜ (saneFor job (now sums) ≡ true) × Roomy (now output) put (now error) told ⌝ }
-    ensures { λ r. ⌜ ((m : Mind job) → StepAt job (before version «record» m) (now (input .entry)) at «is_last» (now (sums .entry)) (now (output .entry)) put (now (error .entry)) told (now (sums .exit)) (now (output .exit)) (now (error .exit)) r) ⌝ }
+    requires { ⌜ (sane-for job (now sums) ≡ true) × Roomy (now output) put (now error) told ⌝ }
+    ensures { λ r. ⌜ ((m : Mind job) → StepAt job (before version «record» m) (now (input .entry)) at «is_last»
+        (now (sums .entry)) (now (output .entry)) put (now (error .entry)) told (now (sums .exit)) (now (output .exit))
+        (now (error .exit)) r) ⌝ }
 {
     if at < input.len() {
         if is_past(job, record) {
@@ -396,7 +413,7 @@ fn go_on(
 
 // Whether the numbers of the totals have room for one record more; other jobs keep none.
 fn has_numbers(job: Job, sums: &[u64]) -> bool
-    ensures { λ r. ⌜ r ≡ saneFor job (now (sums .entry)) ⌝ }
+    ensures { λ r. ⌜ r ≡ sane-for job (now (sums .entry)) ⌝ }
 {
     if is_totals(job) {
         return are_sane(sums);
@@ -430,7 +447,10 @@ pub fn step(
     error: &mut [u8],
     told: usize,
 ) -> Turn
-    ensures { λ r. ⌜ ((m : Mind job) → Turned (roomy job (now (sums .entry)) (now (output .entry)) put (now (error .entry)) told) job (placeAt version «record» m) (now (input .entry)) at «is_last» (now (sums .entry)) (now (output .entry)) put (now (error .entry)) told (now (sums .exit)) (now (output .exit)) (now (error .exit)) r) ⌝ }
+    ensures { λ r. ⌜ ((m : Mind job) → Turned
+        (roomy job (now (sums .entry)) (now (output .entry)) put (now (error .entry)) told) job
+        (place-at version «record» m) (now (input .entry)) at «is_last» (now (sums .entry)) (now (output .entry)) put
+        (now (error .entry)) told (now (sums .exit)) (now (output .exit)) (now (error .exit)) r) ⌝ }
 {
     if !has_numbers(job, &*sums) {
         return Turn::Full;

@@ -1,25 +1,25 @@
 -- The bounds hold: a step whose test is passed can be run, and the lane is then within the next bounds.
-use mathlib.Core.Path.{_≡_, sym, subst, subst⁻¹}
-use mathlib.Core.Bool.{Bool, cond, not, _&&_, _||_}
+use mathlib.Core.Path.{_≡_, subst, subst⁻¹}
+use mathlib.Core.Bool.{Bool, not, _&&_, _||_}
 use mathlib.Core.List.{List, [], _∷_}
-use Prim.Native.Nat.{ℕ, _+_, _*_, _%_, _≤_, _<_}
+use Prim.Native.Nat.{ℕ, _+_, _*_, _≤_, _<_}
 use native.Mathlib.Nat.{le-trans, add-le-add}
 use native.Mathlib.Omega.{arith}
 use lib.Dec.{T, eqb, leb, ltb, eqb→eq, leb→le, ltb→lt}
 use lib.IntN.{ℤ, pos, natAbs, _-ℤ_}
 use lib.ListN.{getD, length}
-use borrow.Author.Tests.{ne-eqb}
 use mir.Facts.{and-yes}
 use Rattle.whole.specs.Numbers.{_>>_, round2}
 use Rattle.whole.specs.Lists.{at}
 use Rattle.whole.proofs.Sizes.{is-zero, abs-add, abs-sub}
 use Rattle.whole.proofs.Machine.{var, lit, _⊕_, _⊝_, _⊛_, _≫_, bound}
 use Rattle.intops.specs.Asked.{reduced, Slight}
-use Rattle.av1.specs.Network.{Step, B, H, step}
+use Rattle.av1.specs.Network.{Step, B, step}
 use Rattle.av1.specs.Values.{exact}
 use Rattle.whole.specs.Both.{Both}
 use Rattle.av1.proofs.Related as Related
 use Rattle.dct.specs.Fitting.{Small, lonely}
+use Rattle.dct.proofs.Fits.{lonely-told}
 use Rattle.lanes.specs.Lanes.{lane, growth, slight, two-rows, turning, fits, fitting, Able, Paired, Turnable}
 use Rattle.lanes.proofs.Lanes.{lane-at}
 
@@ -48,45 +48,40 @@ module _ {h : Bool} {s : Step} {ss : List Step} {L : List ℤ} (w : Able h (s �
 module _ (t : List ℤ) (l : ℕ) (long : length t ≡ 1024) (l-in : l < 32) where
   -- an element of the lane is as small as its bound allows
   small-at : (β : List ℕ) (most a : ℕ) → a < 32 → Both Small (lane t l) β → T (leb (getD β a 0) most) → natAbs (at t (a * 32 + l)) ≤ most
-  small-at β most a h i k = subst (λ (z : ℤ). natAbs z ≤ most) (lane-at t l a h) (le-trans (Related.at Small (pos 0) 0 (omega arith) i a) (leb→le (getD β a 0) most k))
+  small-at β most a h i k =
+      subst (λ (z : ℤ). natAbs z ≤ most) (lane-at t l a h) (le-trans (Related.at Small (pos 0) 0 (omega arith) i a) (leb→le (getD β a 0) most k))
 
   pub paired : (a b most : ℕ) (β : List ℕ) → Both Small (lane t l) β → T (two-rows a b β most) → Paired t l a b most
   paired a b most β i k =
-      let p = and-yes (ltb a 32 && ltb b 32) _ k in
-      let rows = and-yes (ltb a 32) (ltb b 32) (p .0) in
-      let sizes = and-yes (leb (getD β a 0) most) (leb (getD β b 0) most) (p .1) in
-      let a-in = ltb→lt a 32 (rows .0) in
-      let b-in = ltb→lt b 32 (rows .1) in
-      record { long = long; l-in = l-in; a-in = a-in; b-in = b-in; x-small = small-at β most a a-in i (sizes .0); y-small = small-at β most b b-in i (sizes .1) }
+      let p = and-yes (ltb a 32 && ltb b 32) _ k in let rows = and-yes (ltb a 32) (ltb b 32) (p .0) in
+      let sizes = and-yes (leb (getD β a 0) most) (leb (getD β b 0) most) (p .1) in let a-in = ltb→lt a 32 (rows .0) in
+      let b-in = ltb→lt b 32 (rows .1) in let small = small-at β most in
+      record { long = long; l-in = l-in; a-in = a-in; b-in = b-in; x-small = small a a-in i (sizes .0); y-small = small b b-in i (sizes .1) }
 
   zero-at : (β : List ℕ) (a : ℕ) → a < 32 → Both Small (lane t l) β → T (eqb (getD β a 0) 0) → at t (a * 32 + l) ≡ pos 0
   zero-at β a h i k = is-zero (at t (a * 32 + l)) (omega (arith, small-at β 0 a h i (subst⁻¹ (λ (n : ℕ). T (leb n 0)) (eqb→eq (getD β a 0) 0 k) tt)))
 
   pub able-turn : {h : Bool} {a b : ℕ} {c s : ℤ} {flip : Bool} {ss : List Step} → Able h (B a b c s flip ∷ ss) (lane t l) → Turnable h t l a b c s
   able-turn {h} {a} {b} {c} {s} w =
-      let β = w .β in
-      let o = and-yes (turning a b c s β) (not h || lonely a b c s β) (able-now w) in
+      let β = w .β in let o = and-yes (turning a b c s β) (not h || lonely a b c s β) (able-now w) in
       let p = and-yes (two-rows a b β 524288) (slight c && (slight s && slight (pos 0 -ℤ s))) (o .0) in
       let q = and-yes (slight c) (slight s && slight (pos 0 -ℤ s)) (p .1) in
-      let r = and-yes (slight s) (slight (pos 0 -ℤ s)) (q .1) in
-      let rows = paired a b 524288 β (w .inside) (p .0) in
-      record {
+      let r = and-yes (slight s) (slight (pos 0 -ℤ s)) (q .1) in let rows = paired a b 524288 β (w .inside) (p .0) in record {
         rows = rows;
         cos-slight = told c (q .0);
         sin-slight = told s (r .0);
         less-slight = told (pos 0 -ℤ s) (r .1);
         alone = λ e.
-            let k = and-yes (eqb (getD β (cond (eqb (a % 2) 0) b a) 0) 0) (leb (natAbs c) 4095 && leb (natAbs s) 4095) (subst (λ (k : Bool). T (not k || lonely a b c s β)) e (o .1)) in
-            let m = and-yes (leb (natAbs c) 4095) (leb (natAbs s) 4095) (k .1) in
-            let zero : (i : ℕ) → i < 32 → cond (eqb (a % 2) 0) b a ≡ i → at t (i * 32 + l) ≡ pos 0 = λ i g z. zero-at β i g (w .inside) (subst (λ (k : ℕ). T (eqb (getD β k 0) 0)) z (k .0)) in
-            record {
+            let k = lonely-told a b c s β (subst (λ (k : Bool). T (not k || lonely a b c s β)) e (o .1)) in record {
               rows = rows;
-              cos-small = leb→le _ 4095 (m .0);
-              sin-small = leb→le _ 4095 (m .1);
-              first = λ z. zero b (rows .b-in) (λ i. cond (eqb (z i) 0) b a);
-              second = λ z. zero a (rows .a-in) (λ i. cond (ne-eqb (a % 2) 0 z i) b a);
+              cos-small = k .0;
+              sin-small = k .1;
+              first = λ z. zero-at β b (rows .b-in) (w .inside) (k .2 z);
+              second = λ z. zero-at β a (rows .a-in) (w .inside) (k .3 z);
             };
       }
     where
       told : (p : ℤ) → T (slight p) → Slight p
-      told p k = let b = and-yes (leb (natAbs p) 4096) (leb (natAbs (reduced p)) 2047) k in record { small = leb→le _ 4096 (b .0); less = leb→le _ 2047 (b .1) }
+      told p k =
+          let b = and-yes (leb (natAbs p) 4096) (leb (natAbs (reduced p)) 2047) k in
+          record { small = leb→le _ 4096 (b .0); less = leb→le _ 2047 (b .1) }

@@ -1,6 +1,7 @@
 -- Laws of the lanes.
 pub mod Lanes
 pub mod Fits
-pub mod Sweep
+pub mod Ahead
+pub mod Swept
 pub mod Chain
 pub mod Tail

@@ -1,5 +1,5 @@
 -- Steps that name only the first places leave what stands after them, and do not look at it.
-use mathlib.Core.Path.{_≡_, refl, sym, ap, ap₂, _∙_}
+use mathlib.Core.Path.{_≡_, refl, ap, ap₂, _∙_}
 use mathlib.Core.Bool.{Bool, true, false, _&&_, _||_}
 use mathlib.Core.List.{List, [], _∷_, _++_}
 use Prim.Native.Nat.{ℕ, zero, suc, _<_}
@@ -21,22 +21,36 @@ below n [] = true
 below n (B a b c s flip ∷ ss) = both n a b && below n ss
 below n (H a b ∷ ss) = both n a b && below n ss
 
+alone : (b : Bool) → T b → T (b && true)
+alone true k = k
+alone false k = absurd k
+
 set-front : {A : Type 0} (xs rest : List A) (i : ℕ) (v : A) → i < length xs → set (xs ++ rest) i v ≡ set xs i v ++ rest
 set-front [] rest i v h = let f : ⊥ = omega arith in absurd f
 set-front (x ∷ xs) rest zero v h = refl
 set-front (x ∷ xs) rest (suc i) v h = ap (λ l. x ∷ l) (set-front xs rest i v (omega arith))
 
+-- what stands at two of the first places
+module _ {A : Type 0} (d : A) (n a b : ℕ) (xs rest : List A) (e : length xs ≡ n) (k : T (both n a b)) where
+  a-in : a < n
+  a-in = ltb→lt a n (and-yes (ltb a n) (ltb b n) k .0)
+
+  b-in : b < n
+  b-in = ltb→lt b n (and-yes (ltb a n) (ltb b n) k .1)
+
+  at-front : (getD (xs ++ rest) a d ≡ getD xs a d) × (getD (xs ++ rest) b d ≡ getD xs b d)
+  at-front = (List·getD-append xs rest d a (omega (arith, a-in)), List·getD-append xs rest d b (omega (arith, b-in)))
+
+  put-front : (u v : A) → set (set (xs ++ rest) a u) b v ≡ set (set xs a u) b v ++ rest
+  put-front u v =
+      ap (λ l. set l b v) (set-front xs rest a u (omega (arith, a-in))) ∙ set-front (set xs a u) rest b v (omega (arith, b-in, length-set xs a u))
+
 module _ {A : Type 0} (𝓐 : Alg A) where
-  two-front : (n a b : ℕ) (f g : A → A → A) (xs rest : List A) → length xs ≡ n → T (both n a b) → two 𝓐 a b f g (xs ++ rest) ≡ two 𝓐 a b f g xs ++ rest
+  two-front : (n a b : ℕ) (f g : A → A → A) (xs rest : List A) → length xs ≡ n → T (both n a b)
+      → two 𝓐 a b f g (xs ++ rest) ≡ two 𝓐 a b f g xs ++ rest
   two-front n a b f g xs rest e k =
-      let p = and-yes (ltb a n) (ltb b n) k in
-      let a-in = ltb→lt a n (p .0) in
-      let b-in = ltb→lt b n (p .1) in
-      let x = List·getD-append xs rest (𝓐 .none) a (omega arith) in
-      let y = List·getD-append xs rest (𝓐 .none) b (omega arith) in
-      (λ i. set (set (xs ++ rest) a (f (x i) (y i))) b (g (x i) (y i)))
-      ∙ ap (λ l. set l b (g (getD xs a (𝓐 .none)) (getD xs b (𝓐 .none)))) (set-front xs rest a _ (omega arith))
-      ∙ set-front (set xs a (f (getD xs a (𝓐 .none)) (getD xs b (𝓐 .none)))) rest b _ (omega (arith, length-set xs a (f (getD xs a (𝓐 .none)) (getD xs b (𝓐 .none)))))
+      let o = at-front (𝓐 .none) n a b xs rest e k in
+      (λ i. set (set (xs ++ rest) a (f (o .0 i) (o .1 i))) b (g (o .0 i) (o .1 i))) ∙ put-front (𝓐 .none) n a b xs rest e k _ _
 
   two-length : (a b : ℕ) (f g : A → A → A) (xs : List A) → length (two 𝓐 a b f g xs) ≡ length xs
   two-length a b f g xs = length-set (set xs a _) b _ ∙ length-set xs a _
@@ -50,32 +64,33 @@ module _ {A : Type 0} (𝓐 : Alg A) where
   run-length [] xs = refl
   run-length (s ∷ ss) xs = run-length ss (step 𝓐 s xs) ∙ step-length s xs
 
-  step-front : (s : Step) (n : ℕ) (xs rest : List A) (ss : List Step) → length xs ≡ n → T (below n (s ∷ ss)) → step 𝓐 s (xs ++ rest) ≡ step 𝓐 s xs ++ rest
-  step-front (B a b c s true) n xs rest ss e k = two-front n a b (𝓐 .sine c s) (𝓐 .cosine c s) xs rest e (and-yes (both n a b) (below n ss) k .0)
-  step-front (B a b c s false) n xs rest ss e k = two-front n a b (𝓐 .cosine c s) (𝓐 .sine c s) xs rest e (and-yes (both n a b) (below n ss) k .0)
-  step-front (H a b) n xs rest ss e k = two-front n a b (𝓐 .sum) (𝓐 .diff) xs rest e (and-yes (both n a b) (below n ss) k .0)
+  step-front : (s : Step) (n : ℕ) (xs rest : List A) → length xs ≡ n → T (below n (s ∷ [])) → step 𝓐 s (xs ++ rest) ≡ step 𝓐 s xs ++ rest
+  step-front (B a b c s true) n xs rest e k = two-front n a b (𝓐 .sine c s) (𝓐 .cosine c s) xs rest e (and-yes (both n a b) true k .0)
+  step-front (B a b c s false) n xs rest e k = two-front n a b (𝓐 .cosine c s) (𝓐 .sine c s) xs rest e (and-yes (both n a b) true k .0)
+  step-front (H a b) n xs rest e k = two-front n a b (𝓐 .sum) (𝓐 .diff) xs rest e (and-yes (both n a b) true k .0)
 
-next : (s : Step) (n : ℕ) (ss : List Step) → T (below n (s ∷ ss)) → T (below n ss)
-next (B a b c s flip) n ss k = and-yes (both n a b) (below n ss) k .1
-next (H a b) n ss k = and-yes (both n a b) (below n ss) k .1
+-- the first of the steps, and those after it
+parted : (s : Step) (n : ℕ) (ss : List Step) → T (below n (s ∷ ss)) → T (below n (s ∷ [])) × T (below n ss)
+parted (B a b c s flip) n ss k = let o = and-yes (both n a b) (below n ss) k in (alone (both n a b) (o .0), o .1)
+parted (H a b) n ss k = let o = and-yes (both n a b) (below n ss) k in (alone (both n a b) (o .0), o .1)
 
-pub run-front : {A : Type 0} (𝓐 : Alg A) (ss : List Step) (n : ℕ) (xs rest : List A) → length xs ≡ n → T (below n ss) → run 𝓐 ss (xs ++ rest) ≡ run 𝓐 ss xs ++ rest
-run-front 𝓐 [] n xs rest e k = refl
-run-front 𝓐 (s ∷ ss) n xs rest e k = ap (run 𝓐 ss) (step-front 𝓐 s n xs rest ss e k) ∙ run-front 𝓐 ss n (step 𝓐 s xs) rest (step-length 𝓐 s xs ∙ e) (next s n ss k)
+module _ {A : Type 0} (𝓐 : Alg A) where
+  pub run-front : (ss : List Step) (n : ℕ) (xs rest : List A) → length xs ≡ n → T (below n ss) → run 𝓐 ss (xs ++ rest) ≡ run 𝓐 ss xs ++ rest
+  run-front [] n xs rest e k = refl
+  run-front (s ∷ ss) n xs rest e k =
+      let o = parted s n ss k in
+      ap (run 𝓐 ss) (step-front 𝓐 s n xs rest e (o .0)) ∙ run-front ss n (step 𝓐 s xs) rest (step-length 𝓐 s xs ∙ e) (o .1)
 
 module _ (lo hi : ℤ) where
-  hit-front : (s : Step) (n : ℕ) (xs rest : List ℤ) (ss : List Step) → length xs ≡ n → T (below n (s ∷ ss)) → hit lo hi s (xs ++ rest) ≡ hit lo hi s xs
-  hit-front (B a b c s flip) n xs rest ss e k = refl
-  hit-front (H a b) n xs rest ss e k =
-      let p = and-yes (ltb a n) (ltb b n) (and-yes (both n a b) (below n ss) k .0) in
-      let a-in = ltb→lt a n (p .0) in
-      let b-in = ltb→lt b n (p .1) in
-      let x = List·getD-append xs rest (pos 0) a (omega arith) in
-      let y = List·getD-append xs rest (pos 0) b (omega arith) in
-      λ i. outside (x i +ℤ y i) lo hi || outside (x i -ℤ y i) lo hi
+  hit-front : (s : Step) (n : ℕ) (xs rest : List ℤ) → length xs ≡ n → T (below n (s ∷ [])) → hit lo hi s (xs ++ rest) ≡ hit lo hi s xs
+  hit-front (B a b c s flip) n xs rest e k = refl
+  hit-front (H a b) n xs rest e k =
+      let o = at-front (pos 0) n a b xs rest e (and-yes (both n a b) true k .0) in
+      λ i. outside (o .0 i +ℤ o .1 i) lo hi || outside (o .0 i -ℤ o .1 i) lo hi
 
   pub hits-front : (ss : List Step) (n : ℕ) (xs rest : List ℤ) → length xs ≡ n → T (below n ss) → hits lo hi ss (xs ++ rest) ≡ hits lo hi ss xs
   hits-front [] n xs rest e k = refl
   hits-front (s ∷ ss) n xs rest e k =
-      ap₂ (λ (p q : Bool). p || q) (hit-front s n xs rest ss e k)
-      (ap (hits lo hi ss) (step-front (clipped lo hi) s n xs rest ss e k) ∙ hits-front ss n (step (clipped lo hi) s xs) rest (step-length (clipped lo hi) s xs ∙ e) (next s n ss k))
+      let o = parted s n ss k in
+      let on = hits-front ss n (step (clipped lo hi) s xs) rest (step-length (clipped lo hi) s xs ∙ e) (o .1) in
+      ap₂ (λ (p q : Bool). p || q) (hit-front s n xs rest e (o .0)) (ap (hits lo hi ss) (step-front (clipped lo hi) s n xs rest e (o .0)) ∙ on)

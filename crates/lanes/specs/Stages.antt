@@ -1,21 +1,16 @@
 -- The stages of a DCT on every lane of a block.
 use mathlib.Core.Path.{_≡_}
-use mathlib.Core.Bool.{Bool, true, false}
+use mathlib.Core.Bool.{Bool, false}
 use mathlib.Core.List.{List, _++_}
-use Prim.Native.Nat.{ℕ, _+_, _*_, _-_, _≤_, _<_}
+use Prim.Native.Nat.{ℕ, _+_, _*_, _≤_, _<_}
 use lib.IntN.{ℤ, natAbs}
-use lib.ListN.{length, take, drop}
+use lib.ListN.{length}
 use Rattle.whole.specs.Lists.{at}
-use Rattle.av1.specs.Network.{Step, H, run, step}
+use Rattle.av1.specs.Network.{Step, run}
 use Rattle.av1.specs.Values.{exact, clipped, hit, hits}
-use Rattle.dct.specs.Halves.{before, last}
 use Rattle.dct.specs.Fitting.{Ends}
 use Rattle.dct.specs.Stages.{turns, joins, reach}
 use Rattle.lanes.specs.Lanes.{lane, OnLane, far, Able}
-
--- steps i to before j of the DCT of 32 points by halves, which begins with those of 4, 8 and 16 points
-abbrev pub cut : ℕ → ℕ → List Step
-cut i j = take (j - i) (drop i (before 4 ++ last 4))
 
 -- what the two loops over a table ask of lane l
 pub record Turning (tx64 flip : Bool) (ps : List ℕ) (cs : List ℤ) (t : List ℤ) (l : ℕ) : Type 0 where
@@ -34,22 +29,22 @@ pub record Mixed (ss : List Step) (lo hi : ℤ) (l : ℕ) (t u : List ℤ) (r : 
   pub elements : OnLane l (run exact ss) t u
   pub seen : r ≡ far lo hi ss (lane t l)
 
--- a stage: turns whose results are exchanged, turns, and butterflies; what it asks of lane l
-abbrev pub staged : List ℕ → List ℤ → List ℕ → List ℤ → List ℕ → List Step
-staged ps cs qs ds js = (turns true ps cs ++ turns false qs ds) ++ joins js
+-- a stage: turns, and butterflies; what it asks of lane l
+abbrev pub staged : Bool → List ℕ → List ℤ → List ℕ → List Step
+staged flip ps cs js = turns flip ps cs ++ joins js
 
-pub record Staging (tx64 : Bool) (ps : List ℕ) (cs : List ℤ) (qs : List ℕ) (ds : List ℤ) (js : List ℕ) (t : List ℤ) (l : ℕ) : Type 0 where
+pub record Staging (tx64 flip : Bool) (ps : List ℕ) (cs : List ℤ) (js : List ℕ) (t : List ℤ) (l : ℕ) : Type 0 where
   pub long : length t ≡ 1024
   pub l-in : l < 32
   pub even : length ps ≡ length cs
-  pub more-even : length qs ≡ length ds
-  pub able : Able tx64 (staged ps cs qs ds js) (lane t l)
+  pub able : Able tx64 (staged flip ps cs js) (lane t l)
 
 -- a stage on w lanes: what it asks, and how many lanes it leaves: all, or none where a clip would have acted
-pub record Sweeps (tx64 : Bool) (ss : List Step) (w : ℕ) (t : List ℤ) : Type 0 where
+pub record Sweeping (tx64 flip : Bool) (ps : List ℕ) (cs : List ℤ) (js : List ℕ) (w : ℕ) (t : List ℤ) : Type 0 where
   pub long : length t ≡ 1024
   pub width : w ≤ 32
-  pub able : (l : ℕ) → l < w → Able tx64 ss (lane t l)
+  pub even : length ps ≡ length cs
+  pub able : (l : ℕ) → l < w → Able tx64 (staged flip ps cs js) (lane t l)
 
 pub record Left (ss : List Step) (lo hi : ℤ) (w : ℕ) (t u : List ℤ) (r : ℕ) : Type 0 where
   pub long : length u ≡ 1024

@@ -1,18 +1,48 @@
 // The DCTs of src/itx_1d.rs on many lines at once, where no clip acts. Element i of line l stands at 32·i + l, and a stage is done to all lines
 // before the next: its loop is over neighbours. A stage whose sums and differences leave the range gives the lines up.
 ghost use mathlib.Core.Path.{_≡_};
-ghost use mathlib.Core.Bool.{false, cond};
+ghost use mathlib.Core.Bool.{cond};
 ghost use mathlib.Core.List.{_∷_, [], _++_};
-ghost use lib.IntN.{ℤ};
 ghost use lib.ListN.{length};
-ghost use Prim.Native.Nat.{ℕ, _-_, _<_};
-ghost use Rattle.av1.specs.Sides.{len, bits, side};
+ghost use Prim.Native.Nat.{_-_, _<_};
+ghost use Rattle.levels.specs.Sides.{len, bits, side};
 ghost use Rattle.av1.specs.Network as Network;
 ghost use Rattle.av1.specs.Values.{exact};
 ghost use Rattle.dct.specs.Halves.{before, last};
 ghost use Rattle.dct.specs.Stages as Steps;
 ghost use Rattle.lanes.specs.Lanes.{OnLane, Paired, Lonely, Turnable};
 ghost use Rattle.lanes.specs.Stages as Stages;
+use dct::A4;
+use dct::A8;
+use dct::A16;
+use dct::A16A;
+use dct::A16B;
+use dct::A32;
+use dct::A32A;
+use dct::A32B;
+use dct::A32C;
+use dct::A32D;
+use dct::A45;
+use dct::INNER;
+use dct::J4;
+use dct::J8;
+use dct::J16;
+use dct::J16A;
+use dct::J32A;
+use dct::J32B;
+use dct::J32C;
+use dct::LAST8;
+use dct::LAST16;
+use dct::OUTER;
+use dct::P8;
+use dct::P16;
+use dct::P16A;
+use dct::P16B;
+use dct::P32;
+use dct::P32A;
+use dct::P32B;
+use dct::P32C;
+use dct::P32D;
 use intops::dot32;
 use intops::outside;
 use intops::scaled;
@@ -127,23 +157,27 @@ fn mixes(t: &mut [i32; 1024], l: usize, pairs: &[usize], min: i32, max: i32) -> 
     far
 }
 
-// A stage of line l: turns whose results are exchanged, turns, and butterflies.
+// A stage of line l: turns, and butterflies. Each way of `flip` has calls of its own: with one call the compiler would take the loop of
+// `turns` in here, and no longer into each DCT, where the tables are known and it becomes plain steps.
 fn stage(
     t: &mut [i32; 1024],
     l: usize,
     tx64: bool,
-    flipped: &[usize],
-    bends: &[i32],
+    flip: bool,
     pairs: &[usize],
     angles: &[i32],
     joined: &[usize],
     min: i32,
     max: i32,
 ) -> bool
-    requires { ⌜ Stages.Staging tx64 (now flipped) (now bends) (now pairs) (now angles) (now joined) (now t) l ⌝ }
-    ensures { λ r. ⌜ Stages.Mixed (Stages.staged (now (flipped .entry)) (now (bends .entry)) (now (pairs .entry)) (now (angles .entry)) (now (joined .entry))) min max l (now (t .entry)) (now (t .exit)) r ⌝ }
+    requires { ⌜ Stages.Staging tx64 flip (now pairs) (now angles) (now joined) (now t) l ⌝ }
+    ensures { λ r. ⌜ Stages.Mixed (Stages.staged flip (now (pairs .entry)) (now (angles .entry)) (now (joined .entry)))
+        min max l (now (t .entry)) (now (t .exit)) r ⌝ }
 {
-    turns(&mut *t, l, tx64, flipped, bends, true);
+    if flip {
+        turns(&mut *t, l, tx64, pairs, angles, true);
+        return mixes(&mut *t, l, joined, min, max);
+    }
     turns(&mut *t, l, tx64, pairs, angles, false);
     mixes(&mut *t, l, joined, min, max)
 }
@@ -155,462 +189,34 @@ fn kept(w: usize, far: bool) -> usize
     if far { 0 } else { w }
 }
 
-const LAST16: [usize; 16] = [0, 15, 1, 14, 2, 13, 3, 12, 4, 11, 5, 10, 6, 9, 7, 8];
-
-const JOINS32: [usize; 16] = [
-    16,
-    17,
-    19,
-    18,
-    20,
-    21,
-    23,
-    22,
-    24,
-    25,
-    27,
-    26,
-    28,
-    29,
-    31,
-    30,
-];
-
-const JOINS32B: [usize; 16] = [
-    16,
-    19,
-    17,
-    18,
-    23,
-    20,
-    22,
-    21,
-    24,
-    27,
-    25,
-    26,
-    31,
-    28,
-    30,
-    29,
-];
-
-const JOINS32C: [usize; 16] = [
-    16,
-    23,
-    17,
-    22,
-    18,
-    21,
-    19,
-    20,
-    31,
-    24,
-    30,
-    25,
-    29,
-    26,
-    28,
-    27,
-];
-
-const OUTER32: [usize; 16] = [0, 31, 1, 30, 2, 29, 3, 28, 4, 27, 5, 26, 6, 25, 7, 24];
-
-const INNER32: [usize; 16] = [8, 23, 9, 22, 10, 21, 11, 20, 12, 19, 13, 18, 14, 17, 15, 16];
-
-const FIRST4_FLIPPED: [usize; 2] = [0, 1];
-
-const FIRST4_BENDS: [i32; 2] = [2896, 2896];
-
-const FIRST4_PAIRS: [usize; 2] = [2, 3];
-
-const FIRST4_ANGLES: [i32; 2] = [1567, 3784];
-
-const FIRST4_JOINED: [usize; 4] = [0, 3, 1, 2];
-
-const ODD8_PAIRS: [usize; 4] = [4, 7, 5, 6];
-
-const ODD8_ANGLES: [i32; 4] = [799, 4017, 3406, 2276];
-
-const ODD8_JOINED: [usize; 4] = [4, 5, 7, 6];
-
-const ODD16_PAIRS: [usize; 8] = [8, 15, 9, 14, 10, 13, 11, 12];
-
-const ODD16_ANGLES: [i32; 8] = [401, 4076, 3166, 2598, 1931, 3612, 3920, 1189];
-
-const ODD16_JOINED: [usize; 8] = [8, 9, 11, 10, 12, 13, 15, 14];
-
-const ODD32_PAIRS: [usize; 8] = [16, 31, 17, 30, 18, 29, 19, 28];
-
-const ODD32_ANGLES: [i32; 8] = [201, 4091, 3035, 2751, 1751, 3703, 3857, 1380];
-
-const ODD32A_PAIRS: [usize; 8] = [20, 27, 21, 26, 22, 25, 23, 24];
-
-const ODD32A_ANGLES: [i32; 8] = [995, 3973, 3513, 2106, 2440, 3290, 4052, 601];
-
-// Stages whose turns are the first of their inputs. The two ways differ in a constant, so that each loop is of plain steps.
-fn first4(t: &mut [i32; 1024], w: usize, tx64: bool, min: i32, max: i32) -> usize
-    requires { ⌜ Stages.Sweeps tx64 (Stages.cut 0 4) w (now t) ⌝ }
-    ensures { λ r. ⌜ Stages.Left (Stages.cut 0 4) min max w (now (t .entry)) (now (t .exit)) r ⌝ }
+// A stage of w lines, one after the other, and how many of them go on. With `tx64` the turns are the first of their inputs. The two
+// loops differ in a constant, so that each is of plain steps. Of the tables P has the pairs of the turns, A their angles, J the
+// pairs of the butterflies.
+fn sweep(
+    t: &mut [i32; 1024],
+    w: usize,
+    tx64: bool,
+    flip: bool,
+    pairs: &[usize],
+    angles: &[i32],
+    joined: &[usize],
+    min: i32,
+    max: i32,
+) -> usize
+    requires { ⌜ Stages.Sweeping tx64 flip (now pairs) (now angles) (now joined) w (now t) ⌝ }
+    ensures { λ r. ⌜ Stages.Left (Stages.staged flip (now (pairs .entry)) (now (angles .entry)) (now (joined .entry)))
+        min max w (now (t .entry)) (now (t .exit)) r ⌝ }
 {
     let mut far = false;
     if tx64 {
         for l in 0..w {
-            let more = stage(
-                &mut *t,
-                l,
-                true,
-                &FIRST4_FLIPPED,
-                &FIRST4_BENDS,
-                &FIRST4_PAIRS,
-                &FIRST4_ANGLES,
-                &FIRST4_JOINED,
-                min,
-                max,
-            );
+            let more = stage(&mut *t, l, true, flip, pairs, angles, joined, min, max);
             far = far | more;
         }
         return kept(w, far);
     }
     for l in 0..w {
-        let more = stage(
-            &mut *t,
-            l,
-            false,
-            &FIRST4_FLIPPED,
-            &FIRST4_BENDS,
-            &FIRST4_PAIRS,
-            &FIRST4_ANGLES,
-            &FIRST4_JOINED,
-            min,
-            max,
-        );
-        far = far | more;
-    }
-    kept(w, far)
-}
-
-fn odd8(t: &mut [i32; 1024], w: usize, tx64: bool, min: i32, max: i32) -> usize
-    requires { ⌜ Stages.Sweeps tx64 (Stages.cut 4 8) w (now t) ⌝ }
-    ensures { λ r. ⌜ Stages.Left (Stages.cut 4 8) min max w (now (t .entry)) (now (t .exit)) r ⌝ }
-{
-    let mut far = false;
-    if tx64 {
-        for l in 0..w {
-            let more = stage(
-                &mut *t,
-                l,
-                true,
-                &[],
-                &[],
-                &ODD8_PAIRS,
-                &ODD8_ANGLES,
-                &ODD8_JOINED,
-                min,
-                max,
-            );
-            far = far | more;
-        }
-        return kept(w, far);
-    }
-    for l in 0..w {
-        let more = stage(
-            &mut *t,
-            l,
-            false,
-            &[],
-            &[],
-            &ODD8_PAIRS,
-            &ODD8_ANGLES,
-            &ODD8_JOINED,
-            min,
-            max,
-        );
-        far = far | more;
-    }
-    kept(w, far)
-}
-
-fn last8(t: &mut [i32; 1024], w: usize, min: i32, max: i32) -> usize
-    requires { ⌜ Stages.Sweeps false (Stages.cut 8 13) w (now t) ⌝ }
-    ensures { λ r. ⌜ Stages.Left (Stages.cut 8 13) min max w (now (t .entry)) (now (t .exit)) r ⌝ }
-{
-    let mut far = false;
-    for l in 0..w {
-        let more = stage(
-            &mut *t,
-            l,
-            false,
-            &[6, 5],
-            &[2896, 2896],
-            &[],
-            &[],
-            &[0, 7, 1, 6, 2, 5, 3, 4],
-            min,
-            max,
-        );
-        far = far | more;
-    }
-    kept(w, far)
-}
-
-fn odd16(t: &mut [i32; 1024], w: usize, tx64: bool, min: i32, max: i32) -> usize
-    requires { ⌜ Stages.Sweeps tx64 (Stages.cut 13 21) w (now t) ⌝ }
-    ensures { λ r. ⌜ Stages.Left (Stages.cut 13 21) min max w (now (t .entry)) (now (t .exit)) r ⌝ }
-{
-    let mut far = false;
-    if tx64 {
-        for l in 0..w {
-            let more = stage(
-                &mut *t,
-                l,
-                true,
-                &[],
-                &[],
-                &ODD16_PAIRS,
-                &ODD16_ANGLES,
-                &ODD16_JOINED,
-                min,
-                max,
-            );
-            far = far | more;
-        }
-        return kept(w, far);
-    }
-    for l in 0..w {
-        let more = stage(
-            &mut *t,
-            l,
-            false,
-            &[],
-            &[],
-            &ODD16_PAIRS,
-            &ODD16_ANGLES,
-            &ODD16_JOINED,
-            min,
-            max,
-        );
-        far = far | more;
-    }
-    kept(w, far)
-}
-
-fn odd16a(t: &mut [i32; 1024], w: usize, min: i32, max: i32) -> usize
-    requires { ⌜ Stages.Sweeps false (Stages.cut 21 27) w (now t) ⌝ }
-    ensures { λ r. ⌜ Stages.Left (Stages.cut 21 27) min max w (now (t .entry)) (now (t .exit)) r ⌝ }
-{
-    let mut far = false;
-    for l in 0..w {
-        let more = stage(
-            &mut *t,
-            l,
-            false,
-            &[14, 9, 13, 10],
-            &[1567, 3784, -3784, 1567],
-            &[],
-            &[],
-            &[8, 11, 9, 10, 15, 12, 14, 13],
-            min,
-            max,
-        );
-        far = far | more;
-    }
-    kept(w, far)
-}
-
-fn last16(t: &mut [i32; 1024], w: usize, min: i32, max: i32) -> usize
-    requires { ⌜ Stages.Sweeps false (Stages.cut 27 37) w (now t) ⌝ }
-    ensures { λ r. ⌜ Stages.Left (Stages.cut 27 37) min max w (now (t .entry)) (now (t .exit)) r ⌝ }
-{
-    let mut far = false;
-    for l in 0..w {
-        let more = stage(
-            &mut *t,
-            l,
-            false,
-            &[13, 10, 12, 11],
-            &[2896, 2896, 2896, 2896],
-            &[],
-            &[],
-            &LAST16,
-            min,
-            max,
-        );
-        far = far | more;
-    }
-    kept(w, far)
-}
-
-fn odd32(t: &mut [i32; 1024], w: usize, tx64: bool, min: i32, max: i32) -> usize
-    requires { ⌜ Stages.Sweeps tx64 (Stages.cut 37 41) w (now t) ⌝ }
-    ensures { λ r. ⌜ Stages.Left (Stages.cut 37 41) min max w (now (t .entry)) (now (t .exit)) r ⌝ }
-{
-    let mut far = false;
-    if tx64 {
-        for l in 0..w {
-            let more = stage(
-                &mut *t,
-                l,
-                true,
-                &[],
-                &[],
-                &ODD32_PAIRS,
-                &ODD32_ANGLES,
-                &[],
-                min,
-                max,
-            );
-            far = far | more;
-        }
-        return kept(w, far);
-    }
-    for l in 0..w {
-        let more = stage(
-            &mut *t,
-            l,
-            false,
-            &[],
-            &[],
-            &ODD32_PAIRS,
-            &ODD32_ANGLES,
-            &[],
-            min,
-            max,
-        );
-        far = far | more;
-    }
-    kept(w, far)
-}
-
-fn odd32a(t: &mut [i32; 1024], w: usize, tx64: bool, min: i32, max: i32) -> usize
-    requires { ⌜ Stages.Sweeps tx64 (Stages.cut 41 53) w (now t) ⌝ }
-    ensures { λ r. ⌜ Stages.Left (Stages.cut 41 53) min max w (now (t .entry)) (now (t .exit)) r ⌝ }
-{
-    let mut far = false;
-    if tx64 {
-        for l in 0..w {
-            let more = stage(
-                &mut *t,
-                l,
-                true,
-                &[],
-                &[],
-                &ODD32A_PAIRS,
-                &ODD32A_ANGLES,
-                &JOINS32,
-                min,
-                max,
-            );
-            far = far | more;
-        }
-        return kept(w, far);
-    }
-    for l in 0..w {
-        let more = stage(
-            &mut *t,
-            l,
-            false,
-            &[],
-            &[],
-            &ODD32A_PAIRS,
-            &ODD32A_ANGLES,
-            &JOINS32,
-            min,
-            max,
-        );
-        far = far | more;
-    }
-    kept(w, far)
-}
-
-fn odd32b(t: &mut [i32; 1024], w: usize, min: i32, max: i32) -> usize
-    requires { ⌜ Stages.Sweeps false (Stages.cut 53 65) w (now t) ⌝ }
-    ensures { λ r. ⌜ Stages.Left (Stages.cut 53 65) min max w (now (t .entry)) (now (t .exit)) r ⌝ }
-{
-    let mut far = false;
-    for l in 0..w {
-        let more = stage(
-            &mut *t,
-            l,
-            false,
-            &[30, 17, 29, 18, 26, 21, 25, 22],
-            &[799, 4017, -4017, 799, 3406, 2276, -2276, 3406],
-            &[],
-            &[],
-            &JOINS32B,
-            min,
-            max,
-        );
-        far = far | more;
-    }
-    kept(w, far)
-}
-
-fn odd32c(t: &mut [i32; 1024], w: usize, min: i32, max: i32) -> usize
-    requires { ⌜ Stages.Sweeps false (Stages.cut 65 77) w (now t) ⌝ }
-    ensures { λ r. ⌜ Stages.Left (Stages.cut 65 77) min max w (now (t .entry)) (now (t .exit)) r ⌝ }
-{
-    let mut far = false;
-    for l in 0..w {
-        let more = stage(
-            &mut *t,
-            l,
-            false,
-            &[29, 18, 28, 19, 27, 20, 26, 21],
-            &[1567, 3784, 1567, 3784, -3784, 1567, -3784, 1567],
-            &[],
-            &[],
-            &JOINS32C,
-            min,
-            max,
-        );
-        far = far | more;
-    }
-    kept(w, far)
-}
-
-fn last32(t: &mut [i32; 1024], w: usize, min: i32, max: i32) -> usize
-    requires { ⌜ Stages.Sweeps false (Stages.cut 77 81) w (now t) ⌝ }
-    ensures { λ r. ⌜ Stages.Left (Stages.cut 77 81) min max w (now (t .entry)) (now (t .exit)) r ⌝ }
-{
-    let mut far = false;
-    for l in 0..w {
-        let more = stage(
-            &mut *t,
-            l,
-            false,
-            &[27, 20, 26, 21, 25, 22, 24, 23],
-            &[2896, 2896, 2896, 2896, 2896, 2896, 2896, 2896],
-            &[],
-            &[],
-            &[],
-            min,
-            max,
-        );
-        far = far | more;
-    }
-    kept(w, far)
-}
-
-fn last32a(t: &mut [i32; 1024], w: usize, min: i32, max: i32) -> usize
-    requires { ⌜ Stages.Sweeps false (Stages.cut 81 89) w (now t) ⌝ }
-    ensures { λ r. ⌜ Stages.Left (Stages.cut 81 89) min max w (now (t .entry)) (now (t .exit)) r ⌝ }
-{
-    let mut far = false;
-    for l in 0..w {
-        let more = stage(&mut *t, l, false, &[], &[], &[], &[], &OUTER32, min, max);
-        far = far | more;
-    }
-    kept(w, far)
-}
-
-fn last32b(t: &mut [i32; 1024], w: usize, min: i32, max: i32) -> usize
-    requires { ⌜ Stages.Sweeps false (Stages.cut 89 97) w (now t) ⌝ }
-    ensures { λ r. ⌜ Stages.Left (Stages.cut 89 97) min max w (now (t .entry)) (now (t .exit)) r ⌝ }
-{
-    let mut far = false;
-    for l in 0..w {
-        let more = stage(&mut *t, l, false, &[], &[], &[], &[], &INNER32, min, max);
+        let more = stage(&mut *t, l, false, flip, pairs, angles, joined, min, max);
         far = far | more;
     }
     kept(w, far)
@@ -621,7 +227,8 @@ fn dct4(t: &mut [i32; 1024], w: usize, tx64: bool, min: i32, max: i32) -> usize
     requires { ⌜ Stages.Ready tx64 4 w (now t) min max ⌝ }
     ensures { λ r. ⌜ Stages.Left (before 1 ++ last 1) min max w (now (t .entry)) (now (t .exit)) r ⌝ }
 {
-    first4(t, w, tx64, min, max)
+    let pair = sweep(&mut *t, w, tx64, true, &[0, 1], &A45, &[], min, max);
+    sweep(t, pair, tx64, false, &[2, 3], &A4, &J4, min, max)
 }
 
 // inv_dct8_1d_internal_c: the half on the even inputs, which stand first, the odd ones, and the last butterflies.
@@ -630,8 +237,8 @@ fn dct8(t: &mut [i32; 1024], w: usize, tx64: bool, min: i32, max: i32) -> usize
     ensures { λ r. ⌜ Stages.Left (before 2 ++ last 2) min max w (now (t .entry)) (now (t .exit)) r ⌝ }
 {
     let half = dct4(&mut *t, w, tx64, min, max);
-    let odd = odd8(&mut *t, half, tx64, min, max);
-    last8(t, odd, min, max)
+    let odd = sweep(&mut *t, half, tx64, false, &P8, &A8, &J8, min, max);
+    sweep(t, odd, false, true, &[6, 5], &A45, &LAST8, min, max)
 }
 
 // inv_dct16_1d_internal_c.
@@ -640,9 +247,9 @@ fn dct16(t: &mut [i32; 1024], w: usize, tx64: bool, min: i32, max: i32) -> usize
     ensures { λ r. ⌜ Stages.Left (before 3 ++ last 3) min max w (now (t .entry)) (now (t .exit)) r ⌝ }
 {
     let half = dct8(&mut *t, w, tx64, min, max);
-    let odd = odd16(&mut *t, half, tx64, min, max);
-    let odd_a = odd16a(&mut *t, odd, min, max);
-    last16(t, odd_a, min, max)
+    let odd = sweep(&mut *t, half, tx64, false, &P16, &A16, &J16, min, max);
+    let odd_a = sweep(&mut *t, odd, false, true, &P16A, &A16A, &J16A, min, max);
+    sweep(t, odd_a, false, true, &P16B, &A16B, &LAST16, min, max)
 }
 
 // inv_dct32_1d_internal_c.
@@ -651,13 +258,12 @@ fn dct32(t: &mut [i32; 1024], w: usize, tx64: bool, min: i32, max: i32) -> usize
     ensures { λ r. ⌜ Stages.Left (before 4 ++ last 4) min max w (now (t .entry)) (now (t .exit)) r ⌝ }
 {
     let half = dct16(&mut *t, w, tx64, min, max);
-    let odd = odd32(&mut *t, half, tx64, min, max);
-    let odd_a = odd32a(&mut *t, odd, tx64, min, max);
-    let odd_b = odd32b(&mut *t, odd_a, min, max);
-    let odd_c = odd32c(&mut *t, odd_b, min, max);
-    let last = last32(&mut *t, odd_c, min, max);
-    let outer = last32a(&mut *t, last, min, max);
-    last32b(t, outer, min, max)
+    let odd = sweep(&mut *t, half, tx64, false, &P32, &A32, &[], min, max);
+    let odd_a = sweep(&mut *t, odd, tx64, false, &P32A, &A32A, &J32A, min, max);
+    let odd_b = sweep(&mut *t, odd_a, false, true, &P32B, &A32B, &J32B, min, max);
+    let odd_c = sweep(&mut *t, odd_b, false, true, &P32C, &A32C, &J32C, min, max);
+    let last = sweep(&mut *t, odd_c, false, true, &P32D, &A32D, &OUTER, min, max);
+    sweep(t, last, false, true, &[], &[], &INNER, min, max)
 }
 
 // The DCT of n points on w lines, whose inputs stand in bit-reversed order; how many of them are done: all, or none.

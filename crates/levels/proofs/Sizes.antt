@@ -8,8 +8,8 @@ use lib.Dec.{T, eqb, eqb→eq}
 use mir.Facts.{and-yes}
 use Rattle.whole.specs.Checks.{Check, accept, refuse, then}
 use Rattle.whole.proofs.Checks.{refuse≢accept, open-then, same-accept}
-use Rattle.av1.specs.Sides.{Side, of4, of8, of16, of32, len, side}
-use Rattle.itx_1d.specs.declared.Kind.{Kind}
+use Rattle.levels.specs.Sides.{Side, of4, of8, of16, of32, len, side}
+use Rattle.levels.specs.declared.Kind.{Kind}
 use Rattle.levels.specs.declared.Plan.{Plan}
 use Rattle.levels.specs.Plans.{among, shift-0, shift-1, shift-2, shift-of, kinds-of, with-kinds, with-shift, plan}
 
@@ -68,15 +68,13 @@ module _ (w h : ℕ) where
 
   pub plan-of : (type : ℕ) (p : Plan) → plan w h type ≡ accept p → Planned type p
   plan-of type p e =
-      let f = open-then (shift-of w h) _ p e in
-      let g = open-then (kinds-of w h type) _ p (f .2) in
+      let f = open-then (shift-of w h) _ p e in let g = open-then (kinds-of w h type) _ p (f .2) in
       let q = same-accept _ p (g .2) in
       subst (Planned type) q (record { w-is = refl; h-is = refl; shift-is = f .1; kinds-are = g .1 })
 
   pub plan-sided : (type : ℕ) (p : Plan) → plan w h type ≡ accept p → Sided (p .w) × Sided (p .h)
   plan-sided type p e =
-      let k = plan-of type p e in
-      let s = shift-sided (p .shift) (k .shift-is) in
+      let k = plan-of type p e in let s = shift-sided (p .shift) (k .shift-is) in
       (subst Sided (sym (k .w-is)) (s .0), subst Sided (sym (k .h-is)) (s .1))
 
 -- and it is made of its parts

@@ -5,7 +5,7 @@ use Prim.Native.Nat.{ℕ}
 use lib.Dec.{T, eqb}
 use mir.Facts.{and-yes}
 use Rattle.whole.specs.Checks.{Check, accept, refuse}
-use Rattle.itx_1d.specs.declared.Kind.{Kind}
+use Rattle.levels.specs.declared.Kind.{Kind}
 use Rattle.levels.specs.Plans.{TxType, has, types, kinds-in, kinds-of}
 
 -- a test of the types, computed once
@@ -14,7 +14,8 @@ module _ (test : TxType → Bool) where
   all [] = true
   all (t ∷ ts) = test t && all ts
 
-  module _ (P : Check (Kind × Kind) → Type 0) (w h n : ℕ) (no : P (refuse 2 0)) (yes : (t : TxType) → T (test t) → T (has (t .sizes) w h) → P (accept (t .rows, t .columns))) where
+  module _ (P : Check (Kind × Kind) → Type 0) (w h n : ℕ) (no : P (refuse 2 0))
+      (yes : (t : TxType) → T (test t) → T (has (t .sizes) w h) → P (accept (t .rows, t .columns))) where
     pub by-types : T (all types) → P (kinds-of w h n)
     by-types = go types
       where

@@ -10,7 +10,9 @@ use Rattle.levels.specs.declared.Decision.the-variants.{Planned, NoSize,
 use Rattle.levels.specs.declared.Plan.{Plan}
 use Rattle.levels.specs.declared.SizeCheck.{SizeCheck}
 use Rattle.levels.specs.declared.SizeCheck.the-variants.{Shift, NoShift}
-use Rattle.levels.specs.Plans.{shift-check, shift-of, decision-of, plan}
+use Rattle.levels.specs.Plans.{shift-of, plan}
+use Rattle.levels.specs.Inner.{shift-check}
+use Rattle.levels.specs.Plans.{decision-of}
 
 abbrev shift-back : Check ℕ → SizeCheck
 shift-back (accept s) = Shift s

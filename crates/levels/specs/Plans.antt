@@ -4,15 +4,11 @@ use mathlib.Core.List.{List, [], _∷_}
 use Prim.Native.Nat.{ℕ, _*_}
 use lib.Dec.{eqb, leb}
 use Rattle.whole.specs.Checks.{Check, accept, refuse, then}
-use Rattle.itx_1d.specs.declared.Kind.{Kind}
-use Rattle.itx_1d.specs.declared.Kind.the-variants.{Dct, Identity, Wht, Adst, FlipAdst}
+use Rattle.levels.specs.declared.Kind.{Kind}
+use Rattle.levels.specs.declared.Kind.the-variants.{Dct, Identity, Wht, Adst, FlipAdst}
+use Rattle.levels.specs.declared.Plan.{Plan}
 use Rattle.levels.specs.declared.Decision.{Decision}
 use Rattle.levels.specs.declared.Decision.the-variants.{Planned, NoSize, NoType}
-use Rattle.levels.specs.declared.SizeCheck.{SizeCheck}
-use Rattle.levels.specs.declared.SizeCheck.the-variants.{Shift, NoShift}
-use Rattle.levels.specs.declared.TypeCheck.{TypeCheck}
-use Rattle.levels.specs.declared.TypeCheck.the-variants.{Kinds, NoKinds}
-use Rattle.levels.specs.declared.Plan.{Plan}
 
 -- whether w x h is in a list of sizes
 abbrev pub among : ℕ → ℕ → List (ℕ × ℕ) → Bool
@@ -54,8 +50,9 @@ pub record TxType : Type 0 where
 abbrev pub tx : ℕ → Sizes → Kind → Kind → TxType
 tx number sizes rows columns = record { number = number; sizes = sizes; rows = rows; columns = columns }
 
--- document 01's types: DCT_DCT is 0, IDTX 9, V_DCT 10, H_DCT 11, WHT_WHT 16. Those of request E9, in the order of their numbers: ADST_DCT, DCT_ADST, ADST_ADST, FLIPADST_DCT,
--- DCT_FLIPADST, FLIPADST_FLIPADST, ADST_FLIPADST, FLIPADST_ADST; V_ADST, H_ADST, V_FLIPADST, H_FLIPADST. `inv_txfm_add_rust` names the column pass first.
+-- document 01's types: DCT_DCT is 0, IDTX 9, V_DCT 10, H_DCT 11, WHT_WHT 16. Those of request E9, in the order of their numbers: ADST_DCT,
+-- DCT_ADST, ADST_ADST, FLIPADST_DCT, DCT_FLIPADST, FLIPADST_FLIPADST, ADST_FLIPADST, FLIPADST_ADST; V_ADST, H_ADST, V_FLIPADST, H_FLIPADST.
+-- `inv_txfm_add_rust` names the column pass first.
 abbrev pub types : List TxType
 types =
     tx 0 every Dct Dct
@@ -98,15 +95,6 @@ with-shift w h type shift = then (kinds-of w h type) (with-kinds w h shift)
 -- "The decision on size and type yields one plan"
 abbrev pub plan : ℕ → ℕ → ℕ → Check Plan
 plan w h type = then (shift-of w h) (with-shift w h type)
-
--- what the answers say, in the table's numbers
-abbrev pub shift-check : SizeCheck → Check ℕ
-shift-check (Shift s) = accept s
-shift-check NoShift = refuse 1 0
-
-abbrev pub kinds-check : TypeCheck → Check (Kind × Kind)
-kinds-check (Kinds rows columns) = accept (rows, columns)
-kinds-check NoKinds = refuse 2 0
 
 abbrev pub decision-of : Decision → Check Plan
 decision-of (Planned p) = accept p

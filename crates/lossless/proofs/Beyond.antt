@@ -45,7 +45,9 @@ module _ (r r′ : List ℤ) (same : (i : ℕ) → i < 16 → at r i ≡ at r′
     same-checks =
         let e : short r c ≡ false = λ i. le-ltb (length r) 16 long i || le-ltb (length c) 16 room i in
         let e′ : short r′ c′ ≡ false = λ i. le-ltb (length r′) 16 long′ i || le-ltb (length c′) 16 room′ i in
-        λ i. then (depth n) (λ d. unless ((e ∙ sym e′) i) 6 (unless-at (first-ext 16 (λ i. out-of-bounds d (at r i)) (λ i. out-of-bounds d (at r′ i)) (λ j l. ap (out-of-bounds d) (same j l)) i) 23 (accept tt)))
+        λ i. then (depth n) (λ d. unless ((e ∙ sym e′) i) 6
+        (unless-at (first-ext 16 (λ i. out-of-bounds d (at r i)) (λ i. out-of-bounds d (at r′ i))
+        (λ j l. ap (out-of-bounds d) (same j l)) i) 23 (accept tt)))
 
     pub same-answer : written r c n .answer ≡ written r′ c′ n .answer
     unfolding written

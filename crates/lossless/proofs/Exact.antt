@@ -14,8 +14,8 @@ use Rattle.whole.proofs.Floors.{floor-one}
 use Rattle.whole.proofs.Machine.{var, lit, _⊕_, _⊝_, _⊛_, bound, ring}
 use Rattle.whole.proofs.Parts.{rep-self, rep-mul, abs-parts}
 use Rattle.whole.proofs.Ranges.{shift-floor, not-outside}
-use Rattle.av1.specs.Sides.{of4}
-use Rattle.itx_1d.specs.declared.Kind.the-variants.{Wht}
+use Rattle.levels.specs.Sides.{of4}
+use Rattle.levels.specs.declared.Kind.the-variants.{Wht}
 use Rattle.itx_1d.specs.Passes.{wht, pass}
 use Rattle.itx_1d.proofs.PassLaws.{pass-small}
 use Rattle.bitdepth.specs.declared.Depth.{Depth}
@@ -40,16 +40,10 @@ less-less x y = ring (x ∷ y ∷ []) (var 0 ⊝ (var 0 ⊝ var 1)) (var 1) (ome
 twice : (a b c d : ℤ) → let v = wht a b c d in wht (at v 0) (at v 1) (at v 3) (at v 2) ≡ a ∷ b ∷ d ∷ c ∷ []
 unfolding wht
 twice a b c d =
-    let t0 = a +ℤ b in
-    let t2 = c -ℤ d in
-    let t4 = t0 -ℤ t2 >> 1 in
-    let t3 = t4 -ℤ d in
-    let t1 = t4 -ℤ b in
-    let e0 : t0 -ℤ t3 +ℤ t3 ≡ t0 = less-more t0 t3 in
-    let e2 : t2 +ℤ t1 -ℤ t1 ≡ t2 = more-less t2 t1 in
+    let t0 = a +ℤ b in let t2 = c -ℤ d in let t4 = t0 -ℤ t2 >> 1 in let t3 = t4 -ℤ d in let t1 = t4 -ℤ b in
+    let e0 : t0 -ℤ t3 +ℤ t3 ≡ t0 = less-more t0 t3 in let e2 : t2 +ℤ t1 -ℤ t1 ≡ t2 = more-less t2 t1 in
     let e4 : (t0 -ℤ t3 +ℤ t3) -ℤ (t2 +ℤ t1 -ℤ t1) >> 1 ≡ t4 = λ i. e0 i -ℤ e2 i >> 1 in
-    let e3 = (λ i. e4 i -ℤ t1) ∙ less-less t4 b in
-    let e1 = (λ i. e4 i -ℤ t3) ∙ less-less t4 d in
+    let e3 = (λ i. e4 i -ℤ t1) ∙ less-less t4 b in let e1 = (λ i. e4 i -ℤ t3) ∙ less-less t4 d in
     λ i. ((λ j. e0 j -ℤ e3 j) ∙ more-less a b) i ∷ e3 i ∷ e1 i ∷ ((λ j. e2 j +ℤ e1 j) ∙ less-more c d) i ∷ []
 
 -- the WHT of the four numbers that f gives, which nothing else decides
@@ -82,8 +76,7 @@ by-four v =
 pub coefficient-at : (r : List ℤ) (y x : ℕ) → y < 4 → x < 4 → at (coefficients r) (y + x * 4) ≡ along r y x *ℤ pos 4
 unfolding coefficients
 coefficient-at r y x k l =
-    let i : (y + x * 4) % 4 ≡ y = omega arith in
-    let j : (y + x * 4) / 4 ≡ x = omega arith in
+    let i : (y + x * 4) % 4 ≡ y = omega arith in let j : (y + x * 4) / 4 ≡ x = omega arith in
     tab-at 16 (coefficient r) (pos 0) (y + x * 4) (omega arith) ∙ (λ t. along r (i t) (j t) *ℤ pos 4)
 
 -- "a multiple of four"
@@ -117,30 +110,29 @@ module _ (d : Depth) where
     -- "Their inverse is exactly that residual"
     pub comes-back : (y x : ℕ) → y < 4 → x < 4 → residual 𝓦 (coefficients r) 4 y x ≡ at r (y * 4 + x)
     comes-back y x k l =
-        residual-is (coefficients r) y x
-        ∙ ap (λ (s : List ℤ). at s y) (of-four-ext (λ j. middle 𝓦 (coefficients r) 4 j x) (λ j. down r j x) (λ j b. middle-back j x b l) ∙ forth (λ j. at r (j * 4 + x)))
-        ∙ at-four (λ j. at r (j * 4 + x)) y k
+        residual-is (coefficients r) y x ∙ ap (λ (s : List ℤ). at s y)
+        (of-four-ext (λ j. middle 𝓦 (coefficients r) 4 j x) (λ j. down r j x) (λ j b. middle-back j x b l)
+        ∙ forth (λ j. at r (j * 4 + x))) ∙ at-four (λ j. at r (j * 4 + x)) y k
 
     -- "no other sixteen multiples of four have that inverse"
-    module _ (c : List ℤ) (q : ℕ → ℤ) (fours : (i : ℕ) → i < 16 → at c i ≡ q i *ℤ pos 4) (same : (y x : ℕ) → y < 4 → x < 4 → residual 𝓦 c 4 y x ≡ at r (y * 4 + x)) where
+    module _ (c : List ℤ) (q : ℕ → ℤ) (fours : (i : ℕ) → i < 16 → at c i ≡ q i *ℤ pos 4)
+        (same : (y x : ℕ) → y < 4 → x < 4 → residual 𝓦 c 4 y x ≡ at r (y * 4 + x)) where
       down-is : (y x : ℕ) → y < 4 → x < 4 → down r y x ≡ middle 𝓦 c 4 y x
       down-is y x k l =
-          ap (λ (s : List ℤ). at s y) (unwht-ext (λ j. at r (j * 4 + x)) (at (of-four (λ j. middle 𝓦 c 4 j x))) (λ j b. sym (same j x b l) ∙ residual-is c j x) ∙ back (λ j. middle 𝓦 c 4 j x))
-          ∙ at-four (λ j. middle 𝓦 c 4 j x) y k
+          ap (λ (s : List ℤ). at s y) (unwht-ext (λ j. at r (j * 4 + x)) (at (of-four (λ j. middle 𝓦 c 4 j x)))
+          (λ j b. sym (same j x b l) ∙ residual-is c j x) ∙ back (λ j. middle 𝓦 c 4 j x)) ∙ at-four (λ j. middle 𝓦 c 4 j x) y k
 
       along-is : (y x : ℕ) → y < 4 → x < 4 → along r y x ≡ entered 𝓦 c y x
       along-is y x k l =
-          ap (λ (s : List ℤ). at s x) (unwht-ext (down r y) (at (of-four (entered 𝓦 c y))) (λ j b. down-is y j k b ∙ middle-is c y j k) ∙ back (entered 𝓦 c y))
+          ap (λ (s : List ℤ). at s x)
+          (unwht-ext (down r y) (at (of-four (entered 𝓦 c y))) (λ j b. down-is y j k b ∙ middle-is c y j k) ∙ back (entered 𝓦 c y))
           ∙ at-four (entered 𝓦 c y) x l
 
       pub only-these : (i : ℕ) → i < 16 → at c i ≡ at (coefficients r) i
       only-these i l =
-          let y = i % 4 in
-          let x = i / 4 in
-          let z : y + x * 4 ≡ i = omega arith in
-          let e = fours i l in
-          e
-          ∙ ap (λ (v : ℤ). v *ℤ pos 4) (sym (along-is y x (omega arith) (omega arith) ∙ ap (λ (k : ℕ). at c k >> 2) z ∙ ap (λ (v : ℤ). v >> 2) e ∙ by-four (q i)))
+          let y = i % 4 in let x = i / 4 in let z : y + x * 4 ≡ i = omega arith in let e = fours i l in e
+          ∙ ap (λ (v : ℤ). v *ℤ pos 4)
+          (sym (along-is y x (omega arith) (omega arith) ∙ ap (λ (k : ℕ). at c k >> 2) z ∙ ap (λ (v : ℤ). v >> 2) e ∙ by-four (q i)))
           ∙ sym (multiple-of-four r i l)
 
 -- ---- how large
@@ -184,7 +176,7 @@ module _ (d : Depth) (r : List ℤ) (small : (i : ℕ) → i < 16 → natAbs (at
   -- "each lies in the row range"
   pub in-row-range : (i : ℕ) → i < 16 → outside (at (coefficients r) i) (low (row-range d)) (high (row-range d)) ≡ false
   in-row-range i l =
-      let v = along r (i % 4) (i / 4) in
-      let four = bound (v ∷ []) ((5 * (5 * maximum d + 2) + 2) ∷ []) (along-small (i % 4) (i / 4) (omega arith) (omega arith), tt) (var 0 ⊛ lit (pos 4)) in
+      let v = along r (i % 4) (i / 4) in let four = bound (v ∷ []) ((5 * (5 * maximum d + 2) + 2) ∷ [])
+      (along-small (i % 4) (i / 4) (omega arith) (omega arith), tt) (var 0 ⊛ lit (pos 4)) in
       ap (λ (z : ℤ). outside z (low (row-range d)) (high (row-range d))) (multiple-of-four r i l)
       ∙ small-inside (row-range d) (v *ℤ pos 4) (room d .1) (omega (arith, four, room d .0))

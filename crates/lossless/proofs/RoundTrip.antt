@@ -27,13 +27,12 @@ use Rattle.residual.specs.Blocks.{way, entered, row, middle, column, residual, 
 use Rattle.residual.specs.Inner.{wht-plan}
 use Rattle.pixels.specs.Adds.{add-pixel}
 use Rattle.itx_1d.specs.Passes.{pass}
-use Rattle.itx_1d.specs.Calls.{Answer, acceptance}
-use Rattle.itx.specs.Answers.{block}
+use Rattle.whole.specs.Answers.{Answer, acceptance}
 use Rattle.itx.specs.Calls.{Block, plain, outcome, short}
-use Rattle.itx.specs.Demands.{Accepted}
-use Rattle.itx.proofs.Outcomes.{added, answer-is, pixel-rule}
+use Rattle.itx.specs.Demands.{Accepted, addend}
+use Rattle.itx.proofs.Outcomes.{answer-is, pixel-rule}
 use Rattle.lossless.specs.declared.Written.the-variants.{Done}
-use Rattle.lossless.specs.Writes.{coefficient, coefficients, out-of-bounds, checks, left, written, Meets}
+use Rattle.lossless.specs.Writes.{coefficient, coefficients, out-of-bounds, checks, left, written, sent, Meets}
 use Rattle.lossless.proofs.Exact.{of-four-ext, residual-is, middle-is, comes-back, multiple-of-four, in-row-range}
 use Rattle.lossless.proofs.Over.{over-length, over-front}
 
@@ -48,39 +47,45 @@ not-negative : (v : ℤ) → ltZ v (pos 0) ≡ false → pos (natAbs v) ≡ v
 not-negative (pos k) e = refl
 not-negative (negsuc k) e = let t : _≡_ {A = Bool} true false = e in let z : _≡_ {A = ℕ} 0 1 = cc in let f : ⊥ = omega arith in absurd f
 
-module _ (r : List ℤ) (e : ℕ) (b : Block) (d : Depth) (a : Accepted (plain (pos e)) b (wht-plan 0) d) (same : (i : ℕ) → i < 16 → at (b .coefs) i ≡ at (coefficients r) i) where
+module _ (r : List ℤ) (e : ℕ) (b : Block) (d : Depth) (a : Accepted (plain (pos e)) b (wht-plan 0) d)
+    (same : (i : ℕ) → i < 16 → at (b .coefs) i ≡ at (coefficients r) i) where
   middle-same : (y x : ℕ) → y < 4 → middle (way (wht-plan 0) d) (b .coefs) 4 y x ≡ middle (way (wht-plan 0) d) (coefficients r) 4 y x
   middle-same y x l =
-      middle-is d (b .coefs) y x l
-      ∙ ap (λ (s : List ℤ). at s x) (of-four-ext (entered (way (wht-plan 0) d) (b .coefs) y) (entered (way (wht-plan 0) d) (coefficients r) y) (λ k g. ap (λ (v : ℤ). v >> 2) (same (y + k * 4) (omega arith))))
-      ∙ sym (middle-is d (coefficients r) y x l)
+      middle-is d (b .coefs) y x l ∙ ap (λ (s : List ℤ). at s x)
+      (of-four-ext (entered (way (wht-plan 0) d) (b .coefs) y) (entered (way (wht-plan 0) d) (coefficients r) y)
+      (λ k g. ap (λ (v : ℤ). v >> 2) (same (y + k * 4) (omega arith)))) ∙ sym (middle-is d (coefficients r) y x l)
 
   residual-same : (y x : ℕ) → residual (way (wht-plan 0) d) (b .coefs) 4 y x ≡ residual (way (wht-plan 0) d) (coefficients r) 4 y x
   residual-same y x =
-      residual-is d (b .coefs) y x
-      ∙ ap (λ (s : List ℤ). at s y) (of-four-ext (λ k. middle (way (wht-plan 0) d) (b .coefs) 4 k x) (λ k. middle (way (wht-plan 0) d) (coefficients r) 4 k x) (λ k g. middle-same k x g))
+      residual-is d (b .coefs) y x ∙ ap (λ (s : List ℤ). at s y)
+      (of-four-ext (λ k. middle (way (wht-plan 0) d) (b .coefs) 4 k x)
+      (λ k. middle (way (wht-plan 0) d) (coefficients r) 4 k x) (λ k g. middle-same k x g))
       ∙ sym (residual-is d (coefficients r) y x)
 
-  -- what is added is the residual
-  pub adds : (y x : ℕ) → y < 4 → x < 4 → added (plain (pos e)) b (wht-plan 0) d y x ≡ at r (y * 4 + x)
-  adds y x k l = ap (λ (t : Bool). cond t (shortcut (wht-plan 0) (at (b .coefs) 0)) (residual (way (wht-plan 0) d) (b .coefs) 4 y x)) (never-short e) ∙ residual-same y x ∙ comes-back d r y x k l
+  -- what is addend is the residual
+  pub adds : (y x : ℕ) → y < 4 → x < 4 → addend (plain (pos e)) b (wht-plan 0) d y x ≡ at r (y * 4 + x)
+  adds y x k l = ap (λ (t : Bool). cond t (shortcut (wht-plan 0) (at (b .coefs) 0))
+      (residual (way (wht-plan 0) d) (b .coefs) 4 y x)) (never-short e) ∙ residual-same y x ∙ comes-back d r y x k l
 
   -- no WHT has the mark
   pub unmarked : outcome (plain (pos e)) b .answer ≡ acceptance false
   unfolding pass
   unmarked =
-      answer-is (plain (pos e)) b (wht-plan 0) d a
-      ∙ (λ i. acceptance (cond (never-short e i) false (any-none 4 (λ y. row (way (wht-plan 0) d) (b .coefs) y .mark) (λ y l. refl) i || any-none 4 (λ x. column (way (wht-plan 0) d) (b .coefs) 4 x .mark) (λ x l. refl) i)))
+      answer-is (plain (pos e)) b (wht-plan 0) d a ∙ (λ i. acceptance (cond (never-short e i) false
+      (any-none 4 (λ y. row (way (wht-plan 0) d) (b .coefs) y .mark) (λ y l. refl) i || any-none 4
+      (λ x. column (way (wht-plan 0) d) (b .coefs) 4 x .mark) (λ x l. refl) i)))
 
   -- a prediction p with 0 ≤ p + r ≤ maximum becomes p + r
-  pub restored : (y x : ℕ) → y < b .plane .view .rows → x < b .plane .view .columns → let p = pos (getD (b .plane .pixels) (place (b .plane) y x) 0) in let v = at r (y * 4 + x) in
+  pub restored : (y x : ℕ) → y < b .plane .view .rows → x < b .plane .view .columns → let p =
+      pos (getD (b .plane .pixels) (place (b .plane) y x) 0) in let v = at r (y * 4 + x) in
       outside (p +ℤ v) (pos 0) (pos (maximum d)) ≡ false → pos (getD (outcome (plain (pos e)) b .pixels) (place (b .plane) y x) 0) ≡ p +ℤ v
   unfolding outside
   restored y x k l f =
-      let q = getD (b .plane .pixels) (place (b .plane) y x) 0 in
-      let v = at r (y * 4 + x) in
-      ap pos (pixel-rule (plain (pos e)) b (wht-plan 0) d a y x k l ∙ ap (add-pixel (maximum d) q) (adds y x (omega (arith, k, rows-in 4 4 (b .plane .view) (a .placed .seen) .1)) (omega (arith, l, columns-in 4 4 (b .plane .view) (a .placed .seen) .1))) ∙ ap natAbs (clip-inside (pos q +ℤ v) (pos 0) (pos (maximum d)) f))
-      ∙ not-negative (pos q +ℤ v) (or-false _ _ f .0)
+      let q = getD (b .plane .pixels) (place (b .plane) y x) 0 in let v = at r (y * 4 + x) in
+      ap pos (pixel-rule (plain (pos e)) b (wht-plan 0) d a y x k l ∙ ap (add-pixel (maximum d) q)
+      (adds y x (omega (arith, k, rows-in 4 4 (b .plane .view) (a .placed .seen) .1))
+      (omega (arith, l, columns-in 4 4 (b .plane .view) (a .placed .seen) .1)))
+      ∙ ap natAbs (clip-inside (pos q +ℤ v) (pos 0) (pos (maximum d)) f)) ∙ not-negative (pos q +ℤ v) (or-false _ _ f .0)
 
 -- ---- what the writer left, sent on
 
@@ -112,7 +117,8 @@ module _ (r c : List ℤ) (n : ℕ) where
       numbered-then (depth n) _ (numbered-cond (eqb n 8) _ _ tt (numbered-cond (eqb n 10) _ _ tt (numbered-cond (eqb n 12) _ _ tt (omega arith))))
       (λ d.
       let beyond = first 16 (λ i. out-of-bounds d (at r i)) in
-      numbered-unless (ltb (length r) 16 || ltb (length c) 16) 6 (unless-at beyond 23 (accept tt)) (omega arith) (numbered-at beyond 23 (accept tt) (omega arith) tt))
+      numbered-unless (ltb (length r) 16 || ltb (length c) 16) 6 (unless-at beyond 23 (accept tt)) (omega arith)
+      (numbered-at beyond 23 (accept tt) (omega arith) tt))
 
   done : (v : Check (Unit {0})) → Numbered v → 0 ≡ left r c v .answer .number → v ≡ accept tt
   done (accept tt) h e = refl
@@ -134,12 +140,13 @@ module _ (r c c′ : List ℤ) (n : ℕ) (w : Meets (written r c n) Done c′) (
 
   known : Known d
   known =
-      let e = open-then (depth n) _ tt taken in
-      let f = open-unless _ 6 _ tt (e .2) in
-      let g = open-at _ 23 (accept tt) tt (f .1) in
-      let m = maximum (e .0) in
-      subst Known (same-accept (e .0) d (sym (e .1) ∙ deep))
-      (ltb-false (length c) 16 (or-false (ltb (length r) 16) (ltb (length c) 16) (f .0) .1), λ i l. inside-abs (at r i) (negℤ (pos m)) (pos m) (first-none 16 (λ i. out-of-bounds (e .0) (at r i)) (g .0) i l) (omega (arith, abs-neg (pos m))) (le-refl m))
+      let e = open-then (depth n) _ tt taken in let f = open-unless _ 6 _ tt (e .2) in
+      let g = open-at _ 23 (accept tt) tt (f .1) in let m = maximum (e .0) in
+      subst Known (same-accept (e .0) d (sym (e .1) ∙ deep)) (
+        ltb-false (length c) 16 (or-false (ltb (length r) 16) (ltb (length c) 16) (f .0) .1),
+        λ i l. inside-abs (at r i) (negℤ (pos m)) (pos m) (first-none 16 (λ i. out-of-bounds (e .0) (at r i)) (g .0) i l)
+            (omega (arith, abs-neg (pos m))) (le-refl m),
+      )
 
   held : (i : ℕ) → i < 16 → at c′ i ≡ at (coefficients r) i
   unfolding coefficients
@@ -152,10 +159,7 @@ module _ (r c c′ : List ℤ) (n : ℕ) (w : Meets (written r c n) Done c′) (
   -- a block of type 16 with these coefficients, on any plane that holds its visible part, none of it above the maximum, with any eob from 0 up
   module _ (plane : Plane) (placed : Spotted (plane .width) (length (plane .pixels)) 4 4 (plane .view))
       (dim : (y x : ℕ) → y < plane .view .rows → x < plane .view .columns → getD (plane .pixels) (place plane y x) 0 ≤ maximum d) (e : ℕ) where
-    abbrev pub sent : Block
-    sent = block 4 4 16 n c′ plane
-
-    pub sent-accepted : Accepted (plain (pos e)) sent (wht-plan 0) d
+    pub sent-accepted : Accepted (plain (pos e)) (sent n c′ plane) (wht-plan 0) d
     sent-accepted = record {
       planned = refl;
       deep = deep;
@@ -163,15 +167,18 @@ module _ (r c c′ : List ℤ) (n : ℕ) (w : Meets (written r c n) Done c′) (
       rows = refl;
       enough = le-ltb (length c′) 16 (omega (arith, long, known .0));
       placed = placed;
-      ranged = none-first 16 _ (λ i l. ap (λ (v : ℤ). outside v (low (row-range d)) (high (row-range d))) (held i l) ∙ in-row-range d r (known .1) i l);
+      ranged = none-first 16 _
+          (λ i l. ap (λ (v : ℤ). outside v (low (row-range d)) (high (row-range d))) (held i l) ∙ in-row-range d r (known .1) i l);
       covered = refl;
       sound = no-above (maximum d) (plane .pixels) (lies plane) 4 (columns-in 4 4 (plane .view) (placed .seen) .1) dim;
     }
 
-    pub sent-done : outcome (plain (pos e)) sent .answer ≡ acceptance false
-    sent-done = unmarked r e sent d sent-accepted held
+    pub sent-done : outcome (plain (pos e)) (sent n c′ plane) .answer ≡ acceptance false
+    sent-done = unmarked r e (sent n c′ plane) d sent-accepted held
 
     -- "Stamps and signatures must come back exactly."
-    pub comes-exactly : (y x : ℕ) → y < plane .view .rows → x < plane .view .columns → let p = pos (getD (plane .pixels) (place plane y x) 0) in let v = at r (y * 4 + x) in
-        outside (p +ℤ v) (pos 0) (pos (maximum d)) ≡ false → pos (getD (outcome (plain (pos e)) sent .pixels) (place plane y x) 0) ≡ p +ℤ v
-    comes-exactly = restored r e sent d sent-accepted held
+    pub comes-exactly : (y x : ℕ) → y < plane .view .rows → x < plane .view .columns
+        → let p = pos (getD (plane .pixels) (place plane y x) 0) in let v = at r (y * 4 + x) in
+        outside (p +ℤ v) (pos 0) (pos (maximum d)) ≡ false
+        → pos (getD (outcome (plain (pos e)) (sent n c′ plane) .pixels) (place plane y x) 0) ≡ p +ℤ v
+    comes-exactly = restored r e (sent n c′ plane) d sent-accepted held

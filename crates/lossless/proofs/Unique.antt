@@ -5,7 +5,7 @@ use mathlib.Core.List.{List}
 use lib.Dec.{eqb}
 use lib.IntN.{ℤ}
 use Rattle.whole.proofs.Checks.{one-answer}
-use Rattle.itx_1d.specs.Calls.{Answer, Outcome}
+use Rattle.whole.specs.Answers.{Answer, Outcome}
 use Rattle.lossless.specs.declared.Written.{Written}
 use Rattle.lossless.specs.declared.Written.the-variants.{Done, NoDepth, ShortBuffer, OutOfBounds}
 use Rattle.lossless.specs.Writes.{answer-of, Meets}

@@ -12,7 +12,10 @@ use Rattle.whole.specs.Checks.{Check, accept, then, unless, unless-at}
 use Rattle.bitdepth.specs.declared.Depth.{Depth}
 use Rattle.bitdepth.specs.Depths.{depth, maximum}
 use Rattle.itx_1d.specs.Passes.{wht}
-use Rattle.itx_1d.specs.Calls.{Answer, refusal, acceptance, Outcome, outcome-of}
+use Rattle.whole.specs.Answers.{Answer, refusal, acceptance, Outcome, outcome-of}
+use Rattle.strided.specs.Planes.{Plane}
+use Rattle.itx.specs.Calls.{Block}
+use Rattle.itx.specs.Answers.{block}
 use Rattle.lossless.specs.declared.Written.{Written}
 use Rattle.lossless.specs.declared.Written.the-variants.{Done, NoDepth, ShortBuffer, OutOfBounds}
 
@@ -68,3 +71,7 @@ answer-of (OutOfBounds i) = refusal 23 i
 pub record Meets (o : Outcome) (w : Written) (c : List ℤ) : Type 0 where
   pub answer : answer-of w ≡ o .answer
   pub elements : c ≡ o .elements
+
+-- "the plain call .. with these coefficients": a block of type 16 with such coefficients, on a plane
+abbrev pub sent : ℕ → List ℤ → Plane → Block
+sent depth c plane = block 4 4 16 depth c plane

@@ -7,8 +7,8 @@ ghost use Rattle.lossless.specs.Inner as Inner;
 ghost use Rattle.lossless.specs.Writes as Writes;
 use bitdepth::Depth;
 use bitdepth::DepthCheck;
-use coefs::Found;
 use coefs::first_outside;
+use intops::Found;
 use residual::resolve_wht;
 
 // What the writer answers: it has written, or numbers 3, 6 and 23 of the refusals.

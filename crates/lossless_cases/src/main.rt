@@ -10,20 +10,18 @@ use words::load;
 use words::signed;
 use words::word_at;
 
-fn refused(number: u64, place: u64) -> bool {
-    show::answer(number, place, false);
-    false
-}
-
+// Whether it has written.
 fn shown(written: Written) -> bool {
     match written {
-        Written::Done => {
-            show::answer(0, 0, false);
-            true
-        }
-        Written::NoDepth => refused(3, 0),
-        Written::ShortBuffer => refused(6, 0),
-        Written::OutOfBounds(i) => refused(23, i as u64),
+        Written::Done => show::answer(0, 0, false),
+        Written::NoDepth => show::answer(3, 0, false),
+        Written::ShortBuffer => show::answer(6, 0, false),
+        Written::OutOfBounds(i) => show::answer(23, i as u64, false),
+    }
+    if let Written::Done = written {
+        true
+    } else {
+        false
     }
 }
 
@@ -91,8 +89,7 @@ fn as_pixels(v: &[i32; 16]) -> [u16; 16] {
 // Runs one record, and answers whether to go on.
 fn next() -> bool {
     let mut b = [0u8; 160];
-    let got = io::read_full(0, &mut b);
-    if got < 160 {
+    if !words::read_head(&mut b) {
         return false;
     }
     let depth = word_at(&b, 0) as usize;

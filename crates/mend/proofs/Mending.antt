@@ -15,10 +15,10 @@ use Rattle.whole.specs.Numbers.{outside, low, high}
 use Rattle.whole.specs.Checks.{Check, accept, refuse}
 use Rattle.whole.specs.Lists.{at}
 use Rattle.whole.proofs.Clips.{clip-inside, clip-abs}
-use Rattle.blockfile.specs.Answer.{Put}
+use Rattle.blockfile.specs.Inner.{Put}
 use Rattle.blockfile.proofs.Writing.{put-then, put-length}
 use Rattle.text.specs.Text.{line}
-use Rattle.mend.specs.Mend.{moved, Change, change, changes, changeLine, lines}
+use Rattle.mend.specs.Mend.{moved, Change, change, changes, change-line, lines}
 use Rattle.mend.specs.Inner.{reach, Mended}
 use Rattle.text.proofs.Texts.{decimal-short, signed-fits, signed-small, put-one}
 
@@ -65,7 +65,7 @@ module _ {all : List (List ℕ)} {e₀ w e m : List ℕ} {at p q : ℕ} where
 
 -- 20 + 1 + 4 + 1 + 11 + 1 + 7 + 1
 pub change-short : (m n place : ℕ) (v : ℤ) → m ≤ 524288 → n < 18446744073709551616 → place ≤ 1024 → SFits w32 v
-    → length (changeLine n place v (moved m v)) ≤ 46
+    → length (change-line n place v (moved m v)) ≤ 46
 unfolding line
 change-short m n place v a b c f =
     let number = decimal-short 20 n (omega arith) (omega arith) in
@@ -82,8 +82,7 @@ cond-append false x xs ys = refl
 changes-append : (m j : ℕ) (xs ys : List ℤ) → changes m j (xs ++ ys) ≡ changes m j xs ++ changes m (j + length xs) ys
 changes-append m j [] ys = ap (λ (k : ℕ). changes m k ys) (omega arith)
 changes-append m j (x ∷ xs) ys =
-    let count : suc j + length xs ≡ j + suc (length xs) = omega arith in
-    let b = outside x (low m) (high m) in
+    let count : suc j + length xs ≡ j + suc (length xs) = omega arith in let b = outside x (low m) (high m) in
     ap (λ (l : List Change). cond b (change m j x ∷ l) l)
     (changes-append m (suc j) xs ys ∙ ap (λ (k : ℕ). changes m (suc j) xs ++ changes m k ys) count)
     ∙ cond-append b (change m j x) (changes m (suc j) xs) _
@@ -91,14 +90,13 @@ changes-append m j (x ∷ xs) ys =
 lines-append : (n : ℕ) (xs ys : List Change) → lines n (xs ++ ys) ≡ lines n xs ++ lines n ys
 unfolding lines
 lines-append n [] ys = refl
-lines-append n (x ∷ xs) ys = rw (lines-append n xs ys) (sym (append-assoc (changeLine n (x .place) (x .old) (x .new)) (lines n xs) (lines n ys)))
+lines-append n (x ∷ xs) ys = rw (lines-append n xs ys) (sym (append-assoc (change-line n (x .place) (x .old) (x .new)) (lines n xs) (lines n ys)))
 
 -- one coefficient more has one line more, or none
 lines-suc : (m n i : ℕ) (cs : List ℤ) → i < length cs
     → lines n (changes m 0 (take (suc i) cs)) ≡ lines n (changes m 0 (take i cs)) ++ lines n (changes m i (at cs i ∷ []))
 lines-suc m n i cs h =
-    ap (lines n)
-    (ap (changes m 0) (take-suc cs i (pos 0) h) ∙ changes-append m 0 (take i cs) (at cs i ∷ [])
+    ap (lines n) (ap (changes m 0) (take-suc cs i (pos 0) h) ∙ changes-append m 0 (take i cs) (at cs i ∷ [])
     ∙ ap (λ (k : ℕ). changes m 0 (take i cs) ++ changes m k (at cs i ∷ [])) (omega (arith, length-take-le i cs (omega arith))))
     ∙ lines-append n (changes m 0 (take i cs)) (changes m i (at cs i ∷ []))
 
@@ -122,8 +120,7 @@ module _ {m n : ℕ} {cs₀ : List ℤ} {e₀ : List ℕ} {told₀ : ℕ} where
 
     pub finish : length cs₀ ≤ i → Mended (accept m) n cs₀ cs e₀ told₀ e next
     finish h =
-        let all : take i cs₀ ≡ cs₀ = take-all i cs₀ h in
-        record {
+        let all : take i cs₀ ≡ cs₀ = take-all i cs₀ h in record {
           coefficients = k .coefficients ∙ (λ j. map (moved m) (all j) ++ drop-of-length-le cs₀ h j) ∙ append-nil (map (moved m) cs₀);
           told = rw all at (k .told);
         }
@@ -163,8 +160,8 @@ module _ {m n : ℕ} {cs₀ : List ℤ} {e₀ : List ℕ} {told₀ : ℕ} where
           let kept : set cs i (moved m v) ≡ cs = ap (set cs i) (clip-inside v (low m) (high m) o ∙ sym here) ∙ set-getD cs i (pos 0) in
           rw kept at (one-more {e′ = e} {next′ = next} (rw o (put-nothing (omega (arith, k .room)))) (omega arith))
 
-      pub moves : outside v (low m) (high m) ≡ true → {e′ : List ℕ} {next′ : ℕ} → Put (changeLine n i v (moved m v)) e next e′ next′
-          → length (changeLine n i v (moved m v)) ≤ 46 → Mending m n cs₀ e₀ told₀ (set cs i (moved m v)) e′ next′ (i + 1)
+      pub moves : outside v (low m) (high m) ≡ true → {e′ : List ℕ} {next′ : ℕ} → Put (change-line n i v (moved m v)) e next e′ next′
+          → length (change-line n i v (moved m v)) ≤ 46 → Mending m n cs₀ e₀ told₀ (set cs i (moved m v)) e′ next′ (i + 1)
       unfolding lines
       moves o w short = one-more (rw (o, append-nil) w) (omega (arith, w .place))
 

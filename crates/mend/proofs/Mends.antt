@@ -14,18 +14,18 @@ use Rattle.whole.specs.Checks.{Check, accept, refuse}
 use Rattle.whole.proofs.Clips.{clip-inside, clip-kept}
 use Rattle.whole.proofs.Ranges.{zero-inside}
 use Rattle.whole.proofs.Counts.{map-at}
-use Rattle.mend.specs.Mend.{moved, Change, change, changes, changesIn, mended, mend, range, changesOf, InRange, toldOf, Rising}
+use Rattle.mend.specs.Mend.{moved, Change, change, changes, changes-in, mended, mend, range, changes-of, InRange, told-of, Rising}
 use Rattle.blockfile.specs.Record.{Block}
 
 -- ---- the changes
 
 -- a change of another place, and one of this place, that stands there or not
-other-place : (j : ℕ) (t : Bool) (c : Change) (cs : List Change) → eqb (c .place) j ≡ false → toldOf j (cond t (c ∷ cs) cs) ≡ toldOf j cs
+other-place : (j : ℕ) (t : Bool) (c : Change) (cs : List Change) → eqb (c .place) j ≡ false → told-of j (cond t (c ∷ cs) cs) ≡ told-of j cs
 other-place j false c cs e = refl
-other-place j true c cs e = ap (λ (t : Bool). cond t (c ∷ toldOf j cs) (toldOf j cs)) e
+other-place j true c cs e = ap (λ (t : Bool). cond t (c ∷ told-of j cs) (told-of j cs)) e
 
-this-place : (j : ℕ) (t : Bool) (c : Change) (cs : List Change) → eqb (c .place) j ≡ true → toldOf j cs ≡ []
-    → toldOf j (cond t (c ∷ cs) cs) ≡ cond t (c ∷ []) []
+this-place : (j : ℕ) (t : Bool) (c : Change) (cs : List Change) → eqb (c .place) j ≡ true → told-of j cs ≡ []
+    → told-of j (cond t (c ∷ cs) cs) ≡ cond t (c ∷ []) []
 this-place j false c cs e n = n
 this-place j true c cs e n = λ l. cond (e l) (c ∷ n l) (n l)
 
@@ -34,12 +34,12 @@ module _ (m : ℕ) where
   out v = outside v (low m) (high m)
 
   -- none is told of a place before the first
-  none-before : (i j : ℕ) (cs : List ℤ) → j < i → toldOf j (changes m i cs) ≡ []
+  none-before : (i j : ℕ) (cs : List ℤ) → j < i → told-of j (changes m i cs) ≡ []
   none-before i j [] h = refl
   none-before i j (v ∷ vs) h =
       other-place j (out v) (change m i v) (changes m (suc i) vs) (ne-eqb i j (λ e. omega arith)) ∙ none-before (suc i) j vs (omega arith)
 
-  told-from : (i : ℕ) (cs : List ℤ) (j k : ℕ) → i + j ≡ k → toldOf k (changes m i cs) ≡ cond (out (at cs j)) (change m k (at cs j) ∷ []) []
+  told-from : (i : ℕ) (cs : List ℤ) (j k : ℕ) → i + j ≡ k → told-of k (changes m i cs) ≡ cond (out (at cs j)) (change m k (at cs j) ∷ []) []
   told-from i [] j k e = ap (λ (t : Bool). cond t (change m k (pos 0) ∷ []) []) (sym (zero-inside m))
   told-from i (v ∷ vs) zero k e =
       let is : i ≡ k = omega arith in
@@ -49,7 +49,8 @@ module _ (m : ℕ) where
       other-place k (out v) (change m i v) (changes m (suc i) vs) (ne-eqb i k (λ f. omega arith)) ∙ told-from (suc i) vs j k (omega arith)
 
   -- "each change exactly once, and no others": of a place one change is told if its coefficient is out of range, and else none
-  pub told-once : (cs : List ℤ) (j : ℕ) → toldOf j (changes m 0 cs) ≡ cond (out (at cs j)) (change m j (at cs j) ∷ []) []
+  pub told-once : (cs : List ℤ) (j : ℕ) → told-of j (changes m 0 cs)
+      ≡ cond (outside (at cs j) (low m) (high m)) (change m j (at cs j) ∷ []) []
   told-once cs j = told-from 0 cs j j (omega arith)
 
   -- "Lines stand in file order"
@@ -84,13 +85,13 @@ module _ (m : ℕ) where
   moved-in cs i = ap out (at-moved cs i) ∙ clip-kept (at cs i) (low m) (high m) (pos 0) (zero-inside m)
 
 -- a record whose coefficients are in range is copied as it stands, without a line
-pub in-range-stays : (b : Block) → InRange (range (b .head)) (b .coefficients) → (mend b ≡ b) × (changesOf b ≡ [])
+pub in-range-stays : (b : Block) → InRange (range (b .head)) (b .coefficients) → (mend b ≡ b) × (changes-of b ≡ [])
 in-range-stays b = go (range (b .head))
   where
     coefs-as : List ℤ → Block
     coefs-as cs = record { head = b .head; coefficients = cs; pixels = b .pixels }
 
-    go : (c : Check ℕ) → InRange c (b .coefficients) → (coefs-as (mended c (b .coefficients)) ≡ b) × (changesIn c (b .coefficients) ≡ [])
+    go : (c : Check ℕ) → InRange c (b .coefficients) → (coefs-as (mended c (b .coefficients)) ≡ b) × (changes-in c (b .coefficients) ≡ [])
     go (accept m) h = (ap coefs-as (none-moved m (b .coefficients) h), none-told m 0 (b .coefficients) h)
     go (refuse n i) h = (refl, refl)
 
@@ -102,5 +103,5 @@ mended-in-range b = go (range (b .head))
     go (accept m) = moved-in m (b .coefficients)
     go (refuse n i) = tt
 
-pub once : (b : Block) → (mend (mend b) ≡ mend b) × (changesOf (mend b) ≡ [])
+pub once : (b : Block) → (mend (mend b) ≡ mend b) × (changes-of (mend b) ≡ [])
 once b = in-range-stays (mend b) (mended-in-range b)

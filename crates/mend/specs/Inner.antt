@@ -6,8 +6,8 @@ use Prim.Native.Nat.{ℕ}
 use lib.IntN.{ℤ}
 use Rattle.whole.specs.Checks.{Check, accept, refuse}
 use Rattle.bitdepth.specs.Depths.{row-range}
-use Rattle.blockfile.specs.Answer.{Put}
-use Rattle.mend.specs.Mend.{mended, changesIn, lines}
+use Rattle.blockfile.specs.Inner.{Put}
+use Rattle.mend.specs.Mend.{mended, changes-in, lines}
 use Rattle.mend.specs.declared.RowRange.{RowRange}
 use Rattle.mend.specs.declared.RowRange.the-variants.{Of, None}
 
@@ -17,11 +17,11 @@ reach (accept m) = some m
 reach (refuse n i) = none
 
 -- the same of what `mend::row_range` answers
-abbrev pub reachOf : RowRange → Option ℕ
-reachOf (Of d) = some (row-range d)
-reachOf None = none
+abbrev pub reach-of : RowRange → Option ℕ
+reach-of (Of d) = some (row-range d)
+reach-of None = none
 
 -- the coefficients of record i are mended by a range, and the lines of its changes are put
 pub record Mended (r : Check ℕ) (i : ℕ) (before after : List ℤ) (entry : List ℕ) (at : ℕ) (exit : List ℕ) (next : ℕ) : Type 0 where
   pub coefficients : after ≡ mended r before
-  pub told : Put (lines i (changesIn r before)) entry at exit next
+  pub told : Put (lines i (changes-in r before)) entry at exit next

@@ -22,8 +22,8 @@ use Rattle.text.specs.Text.{decimal, signed, line}
 abbrev pub planned : Head → Check (Plan × Depth)
 planned h = then (plan (h .w) (h .h) (h .txtp)) (with-depth (h .depth))
 
--- "coefficients past the row range": the row range -m .. m - 1 of a record, by m. "a record that meets a number checked before 9 is copied as it stands": of
--- those a record that was read can meet 2 and 3, and no other (`no-range` in crates/jobs/proofs/Salvaged.antt).
+-- "coefficients past the row range": the row range -m .. m - 1 of a record, by m. "a record that meets a number checked before 9 is copied
+-- as it stands": of those a record that was read can meet 2 and 3, and no other (`no-range` in crates/jobs/proofs/Salvaged.antt).
 abbrev pub range : Head → Check ℕ
 range h = then (planned h) (λ a. accept (row-range (a .1)))
 
@@ -50,31 +50,31 @@ abbrev pub mended : Check ℕ → List ℤ → List ℤ
 mended (accept m) cs = map (moved m) cs
 mended (refuse n i) cs = cs
 
-abbrev pub changesIn : Check ℕ → List ℤ → List Change
-changesIn (accept m) cs = changes m 0 cs
-changesIn (refuse n i) cs = []
+abbrev pub changes-in : Check ℕ → List ℤ → List Change
+changes-in (accept m) cs = changes m 0 cs
+changes-in (refuse n i) cs = []
 
 abbrev pub mend : Block → Block
 mend b = record { head = b .head; coefficients = mended (range (b .head)) (b .coefficients); pixels = b .pixels }
 
-abbrev pub changesOf : Block → List Change
-changesOf b = changesIn (range (b .head)) (b .coefficients)
+abbrev pub changes-of : Block → List Change
+changes-of b = changes-in (range (b .head)) (b .coefficients)
 
 -- "a line for each change: record number, place .., old value, new value, with single blanks"
-abbrev pub changeLine : ℕ → ℕ → ℤ → ℤ → List ℕ
-changeLine i place old new = line (decimal i ∷ decimal place ∷ signed old ∷ signed new ∷ [])
+abbrev pub change-line : ℕ → ℕ → ℤ → ℤ → List ℕ
+change-line i place old new = line (decimal i ∷ decimal place ∷ signed old ∷ signed new ∷ [])
 
 -- "Lines stand in file order": those of record i
 unfoldable pub lines : ℕ → List Change → List ℕ
 unfolding line decimal signed
 lines i [] = []
-lines i (c ∷ cs) = changeLine i (c .place) (c .old) (c .new) ++ lines i cs
+lines i (c ∷ cs) = change-line i (c .place) (c .old) (c .new) ++ lines i cs
 
 -- and of the records from number i on
-unfoldable pub allLines : ℕ → List Block → List ℕ
+unfoldable pub all-lines : ℕ → List Block → List ℕ
 unfolding lines
-allLines i [] = []
-allLines i (b ∷ bs) = lines i (changesOf b) ++ allLines (suc i) bs
+all-lines i [] = []
+all-lines i (b ∷ bs) = lines i (changes-of b) ++ all-lines (suc i) bs
 
 -- ---- what is proved of it speaks of these
 
@@ -92,9 +92,9 @@ abbrev pub PixelsLow : Block → Type 0
 PixelsLow b = (d : Depth) → depth (b .head .depth) ≡ accept d → (i : ℕ) → getD (b .pixels) i 0 ≤ maximum d
 
 -- the changes told of place j
-abbrev pub toldOf : ℕ → List Change → List Change
-toldOf j [] = []
-toldOf j (c ∷ cs) = cond (eqb (c .place) j) (c ∷ toldOf j cs) (toldOf j cs)
+abbrev pub told-of : ℕ → List Change → List Change
+told-of j [] = []
+told-of j (c ∷ cs) = cond (eqb (c .place) j) (c ∷ told-of j cs) (told-of j cs)
 
 -- each place is past those before it
 abbrev pub Rising : ℕ → List Change → Type 0

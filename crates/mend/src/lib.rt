@@ -4,10 +4,10 @@ ghost use Prim.Native.Nat.{_+_, _*_, _≤_};
 ghost use lib.ListN.{length};
 ghost use Rattle.whole.specs.Checks.{accept};
 ghost use Rattle.bitdepth.specs.Depths as Depths;
-ghost use Rattle.blockfile.specs.Answer.{Put};
+ghost use Rattle.blockfile.specs.Inner.{Put};
 ghost use Rattle.mend.specs.Mend as Mend;
-ghost use Rattle.mend.specs.Mend.{changeLine};
-ghost use Rattle.mend.specs.Inner.{Mended, reach, reachOf};
+ghost use Rattle.mend.specs.Mend.{change-line};
+ghost use Rattle.mend.specs.Inner.{Mended, reach, reach-of};
 use bitdepth::Depth;
 use bitdepth::DepthCheck;
 use bitdepth::Range;
@@ -26,9 +26,9 @@ pub enum RowRange {
 }
 
 // "record number, place .., old value, new value, with single blanks": puts this line at the place `at`, and answers the place after it.
-pub fn put_change(out: &mut [u8], at: usize, record: u64, place: usize, old: i32, new: i32) -> usize
-    requires { ⌜ at + length (changeLine «record» place old new) ≤ length (now out) ⌝ }
-    ensures { λ r. ⌜ Put (changeLine «record» place old new) (now (out .entry)) at (now (out .exit)) r ⌝ }
+fn put_change(out: &mut [u8], at: usize, record: u64, place: usize, old: i32, new: i32) -> usize
+    requires { ⌜ at + length (change-line «record» place old new) ≤ length (now out) ⌝ }
+    ensures { λ r. ⌜ Put (change-line «record» place old new) (now (out .entry)) at (now (out .exit)) r ⌝ }
 {
     let a = put_decimal(out, at, record);
     out[a] = b' ';
@@ -43,13 +43,7 @@ pub fn put_change(out: &mut [u8], at: usize, record: u64, place: usize, old: i32
 
 // Moves each coefficient outside the depth's row range to the nearer end, in the file's order, and puts the line of each change from the place
 // `told` on. A line takes 46 bytes at most.
-pub fn mend(
-    coefficients: &mut [i32],
-    depth: Depth,
-    record: u64,
-    error: &mut [u8],
-    told: usize,
-) -> usize
+fn mend(coefficients: &mut [i32], depth: Depth, record: u64, error: &mut [u8], told: usize) -> usize
     requires { ⌜ (length (now coefficients) ≤ 1024) × (told + 46 * length (now coefficients) ≤ length (now error)) ⌝ }
     ensures { λ r. ⌜ Mended (accept (Depths.row-range depth)) «record» (now (coefficients .entry)) (now (coefficients .exit))
         (now (error .entry)) told (now (error .exit)) r ⌝ }
@@ -70,8 +64,8 @@ pub fn mend(
 }
 
 // Numbers 2 and 3; 1 too, though no record that was read meets it.
-pub fn row_range(head: Head) -> RowRange
-    ensures { λ r. ⌜ reachOf r ≡ reach (Mend.range head) ⌝ }
+fn row_range(head: Head) -> RowRange
+    ensures { λ r. ⌜ reach-of r ≡ reach (Mend.range head) ⌝ }
 {
     let decision = Plan::of(head.w as usize, head.h as usize, head.txtp as usize);
     let Decision::Planned(_) = decision else {

@@ -2,3 +2,4 @@
 pub mod Pixels
 pub mod Shifts
 pub mod Above
+pub mod Walks

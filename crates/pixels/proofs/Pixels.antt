@@ -13,8 +13,8 @@ use lib.Seq.{getD-set-same, getD-set-other}
 use Rattle.whole.specs.Numbers.{round2}
 use Rattle.whole.proofs.Counts.{last-or-less}
 use Rattle.whole.proofs.Machine.{var, lit, _⊕_, _≫_, bound}
-use Rattle.itx_1d.specs.declared.Kind.{Kind}
-use Rattle.itx_1d.proofs.Manners.{split}
+use Rattle.levels.specs.declared.Kind.{Kind}
+use Rattle.levels.proofs.Manners.{split}
 use Rattle.pixels.specs.Adds.{add-pixel, add-row, add-rows}
 use Rattle.pixels.specs.Inner.{left}
 
@@ -41,12 +41,12 @@ module _ (top : ℕ) (ps : List ℕ) (from : ℕ) where
   row-other v zero i g = refl
   row-other v (suc k) i g = getD-set-other (add-row top ps from v k) (from + k) i _ 0 (g k (omega arith)) ∙ row-other v k i (λ x l. g x (omega arith))
 
-  pub row-own : (v : ℕ → ℤ) (k x : ℕ) → x < k → from + k ≤ length ps → getD (add-row top ps from v k) (from + x) 0 ≡ add-pixel top (getD ps (from + x) 0) (v x)
+  pub row-own : (v : ℕ → ℤ) (k x : ℕ) → x < k → from + k ≤ length ps
+      → getD (add-row top ps from v k) (from + x) 0 ≡ add-pixel top (getD ps (from + x) 0) (v x)
   unfolding add-row
   row-own v zero x l b = let e : ⊥ = omega arith in absurd e
   row-own v (suc k) x l b =
-      let rest = add-row top ps from v k in
-      let new : ℕ → ℕ = λ x. add-pixel top (getD ps (from + x) 0) (v x) in
+      let rest = add-row top ps from v k in let new : ℕ → ℕ = λ x. add-pixel top (getD ps (from + x) 0) (v x) in
       last-or-less x k (λ (n : ℕ). getD (set rest (from + k) (new k)) (from + n) 0 ≡ new n) l
       (getD-set-same rest (from + k) (new k) 0 (omega (arith, row-length v k)))
       (λ g. getD-set-other rest (from + k) (from + x) (new k) 0 (λ e. omega arith) ∙ row-own v k x g (omega arith))
@@ -60,7 +60,8 @@ module _ (top : ℕ) (ps : List ℕ) (from : ℕ) where
       (λ i. set (e i) (from + k) ((f ∙ (λ j. add-pixel top (was j) (g j))) i)) ∙ ap (add-row top ps from v) (sym (add-one k))
 
   -- what is added alike leaves alike
-  row-ext : (v u : ℕ → ℤ) (k : ℕ) → ((x : ℕ) → x < k → add-pixel top (getD ps (from + x) 0) (v x) ≡ add-pixel top (getD ps (from + x) 0) (u x)) → add-row top ps from v k ≡ add-row top ps from u k
+  row-ext : (v u : ℕ → ℤ) (k : ℕ) → ((x : ℕ) → x < k → add-pixel top (getD ps (from + x) 0) (v x) ≡ add-pixel top (getD ps (from + x) 0) (u x))
+      → add-row top ps from v k ≡ add-row top ps from u k
   unfolding add-row
   row-ext v u zero e = refl
   row-ext v u (suc k) e = ap₂ (λ (s : List ℕ) (z : ℕ). set s (from + k) z) (row-ext v u k (λ x l. e x (omega arith))) (e k (omega arith))
@@ -78,7 +79,8 @@ module _ {top : ℕ} {ps : List ℕ} {from : ℕ} {v : ℕ → ℤ} {w x : ℕ} 
   pub row-long : length now ≡ length ps
   row-long = ap length (h .is) ∙ row-length top ps from v x
 
-  pub row-next : {q : ℕ} {z : ℤ} → x < w → z ≡ v x → q ≡ add-pixel top (getD now (from + x) 0) z → RowTo top ps from v w (x + 1) (set now (from + x) q)
+  pub row-next : {q : ℕ} {z : ℤ} → x < w → z ≡ v x → q ≡ add-pixel top (getD now (from + x) 0) z
+      → RowTo top ps from v w (x + 1) (set now (from + x) q)
   row-next l g f = record { is = row-more top ps from v x _ (h .is) g f; few = omega arith }
 
   pub row-done : w ≤ x → now ≡ add-row top ps from v w
@@ -96,7 +98,8 @@ module _ (top : ℕ) (ps : List ℕ) (from : ℕ → ℕ) where
   pub pixel-kept : (v : ℕ → ℕ → ℤ) (n k i : ℕ) → ((y x : ℕ) → y < k → x < n → i ≢ from y + x) → getD (add-rows top ps from v n k) i 0 ≡ getD ps i 0
   unfolding add-rows
   pixel-kept v n zero i f = refl
-  pixel-kept v n (suc k) i f = row-other top (add-rows top ps from v n k) (from k) (v k) n i (λ x l. f k x (omega arith) l) ∙ pixel-kept v n k i (λ y x l. f y x (omega arith))
+  pixel-kept v n (suc k) i f =
+      row-other top (add-rows top ps from v n k) (from k) (v k) n i (λ x l. f k x (omega arith) l) ∙ pixel-kept v n k i (λ y x l. f y x (omega arith))
 
   -- one more row
   rows-more : (v : ℕ → ℕ → ℤ) (n k : ℕ) {now after : List ℕ} {at : ℕ} → now ≡ add-rows top ps from v n k → at ≡ from k
@@ -112,17 +115,20 @@ module _ (top : ℕ) (ps : List ℕ) (from : ℕ → ℕ) where
     pixel-waits y x g m = pixel-kept v n y (from y + x) (λ u t l k e. apart u y t x l g k m (sym e))
 
     -- the pixel of row y, column x gets its number
-    pub pixel-set : (k y x : ℕ) → k ≤ h → y < k → x < n → getD (add-rows top ps from v n k) (from y + x) 0 ≡ add-pixel top (getD ps (from y + x) 0) (v y x)
+    pub pixel-set : (k y x : ℕ) → k ≤ h → y < k → x < n
+        → getD (add-rows top ps from v n k) (from y + x) 0 ≡ add-pixel top (getD ps (from y + x) 0) (v y x)
     unfolding add-rows
     pixel-set zero y x l g m = let f : ⊥ = omega arith in absurd f
     pixel-set (suc k) y x l g m =
         let rest = add-rows top ps from v n k in
         last-or-less y k (λ (u : ℕ). getD (add-row top rest (from k) (v k) n) (from u + x) 0 ≡ add-pixel top (getD ps (from u + x) 0) (v u x)) g
-        (row-own top rest (from k) (v k) n x m (omega (arith, fits k l, rows-length v n k)) ∙ ap (λ (q : ℕ). add-pixel top q (v k x)) (pixel-waits k x l m))
+        (row-own top rest (from k) (v k) n x m (omega (arith, fits k l, rows-length v n k))
+        ∙ ap (λ (q : ℕ). add-pixel top q (v k x)) (pixel-waits k x l m))
         (λ j. row-other top rest (from k) (v k) n (from y + x) (λ t i. apart y k x t j l m i) ∙ pixel-set k y x (omega arith) j m)
 
-  pub rows-ext : (v u : ℕ → ℕ → ℤ) (n k : ℕ)
-      → ((y x : ℕ) → y < k → x < n → add-pixel top (getD (add-rows top ps from u n y) (from y + x) 0) (v y x) ≡ add-pixel top (getD (add-rows top ps from u n y) (from y + x) 0) (u y x))
+  pub rows-ext : (v u : ℕ → ℕ → ℤ) (n k : ℕ) → ((y x : ℕ) → y < k → x < n
+      → add-pixel top (getD (add-rows top ps from u n y) (from y + x) 0) (v y x)
+      ≡ add-pixel top (getD (add-rows top ps from u n y) (from y + x) 0) (u y x))
       → add-rows top ps from v n k ≡ add-rows top ps from u n k
   unfolding add-rows
   rows-ext v u n zero e = refl

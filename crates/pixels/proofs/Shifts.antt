@@ -1,12 +1,16 @@
 -- The pixel rule in 16 or in 8 bits: what is below 0 is 0 and what is above the most is the most at every step, and the most stands for the top.
 use mathlib.Core.Path.{_≡_, refl, sym, ap, _∙_}
 use mathlib.Core.Bool.{Bool, true, false}
+use mathlib.Core.List.{[], _∷_}
 use Prim.Native.Nat.{ℕ, suc, _+_, _-_, _≤_, min}
 use native.Mathlib.Omega.{arith}
 use lib.IntN.{ℤ, pos, negsuc, _-ℤ_, natAbs}
 use lib.Signed.{ltZ}
 use borrow.Author.Tests.{ltb-true, ltb-false}
 use Rattle.whole.specs.Numbers.{clip}
+use mir.Syntax.{w32}
+use mir.Val.{SFits, toZ, ofZ}
+use Rattle.whole.proofs.Machine.{E, var, lit, _⊝_, raw, need, reads}
 use Rattle.whole.proofs.Clips.{clip-high, clip-none}
 use Rattle.whole.proofs.Parts.{pp, Rep, rep-self, rep-add, rep-sub, nlt-parts}
 use Rattle.whole.proofs.Ranges.{clip-floor}
@@ -43,6 +47,21 @@ module _ (most : ℕ) (v : ℤ) where
   abbrev pub down : ℕ
   down = natAbs (clip (pos 0 -ℤ v) (pos 0) (pos most))
 
+-- they as the code finds them
+abbrev pub minus : E
+minus = lit (pos 0) ⊝ var 0
+
+module _ (v : ℤ) (small : natAbs v ≤ 16777216) where
+  pub minus-fits : SFits w32 (raw (v ∷ []) minus w32)
+  minus-fits = need (v ∷ []) (16777216 ∷ []) (small, tt) minus w32 tt
+
+  module _ (most : ℕ) {q : ℕ} where
+    pub down-is : q ≡ natAbs (clip (toZ w32 (ofZ w32 (raw (v ∷ []) minus w32))) (pos 0) (pos most)) → q ≡ down most v
+    down-is e = e ∙ ap (λ (z : ℤ). natAbs (clip z (pos 0) (pos most))) (reads (v ∷ []) (16777216 ∷ []) (small, tt) minus w32 tt)
+
+    pub up-is : q ≡ natAbs (clip (toZ w32 (ofZ w32 v)) (pos 0) (pos most)) → q ≡ up most v
+    up-is e = e ∙ ap (λ (z : ℤ). natAbs (clip z (pos 0) (pos most))) (reads (v ∷ []) (16777216 ∷ []) (small, tt) (var 0) w32 tt)
+
 module _ (most : ℕ) where
   -- the most stands for the top
   raised : (p top n rest : ℕ) → rest + top ≡ most → min (p + (min n top + rest)) most - rest ≡ min (p + n - (0 + 0)) top
@@ -56,7 +75,8 @@ module _ (most : ℕ) where
       capped-back : (k : ℕ) → min (k + (0 + rest)) most - rest ≡ min k top
       capped-back k = omega arith
 
-  pub shifted : (p top : ℕ) (v : ℤ) → p ≤ most → top ≤ most → min (p - down most v + (up top v + (most - top))) most - (most - top) ≡ add-pixel top p v
+  pub shifted : (p top : ℕ) (v : ℤ) → p ≤ most → top ≤ most
+      → min (p - down most v + (up top v + (most - top))) most - (most - top) ≡ add-pixel top p v
   shifted p top (pos n) p-fits top-fits =
       let v = pos n in
       let d : p - down most v ≡ p = ap (λ (k : ℕ). p - k) (capped-at most (rep-sub (rep-self (pos 0)) (rep-self v))) ∙ omega arith in

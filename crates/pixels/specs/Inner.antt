@@ -7,14 +7,19 @@ use lib.IntN.{ℤ, natAbs}
 use lib.ListN.{getD, length}
 use Rattle.whole.specs.Numbers.{round2}
 use Rattle.whole.specs.Lists.{at}
-use Rattle.itx_1d.specs.declared.Kind.{Kind}
+use Rattle.levels.specs.declared.Kind.{Kind}
 use Rattle.strided.specs.declared.Spot.{Spot}
 use Rattle.strided.specs.Planes.{begins, spot-outside}
-use Rattle.residual.specs.Blocks.{if-wht}
+use Rattle.levels.specs.Manners.{if-wht}
+use Rattle.pixels.specs.Adds.{add-rows}
 
 -- what a column pass leaves, rounded as it is added: "v + 8 >> 4", and v itself for WHT_WHT
 abbrev pub left : Kind → ℤ → ℤ
 left columns v = if-wht columns v (round2 v 4)
+
+-- what adding to a block leaves: row y's numbers stand in t from y·step on
+abbrev pub painted : ℕ → Kind → ℕ → List ℕ → List ℤ → Spot → List ℕ
+painted top columns step ps t spot = add-rows top ps (begins spot) (λ y x. left columns (at t (y * step + x))) (spot .columns) (spot .rows)
 
 -- w numbers stand in t from `start` on, and are small
 pub record Small (start w : ℕ) (t : List ℤ) : Type 0 where

@@ -1,19 +1,18 @@
 // Step 6 of the two-dimensional transform: what is added to the pixels of a plane.
 ghost use mathlib.Core.Path.{_≡_};
-ghost use Prim.Native.Nat.{_+_, _-_, _*_, _≤_, min};
+ghost use Prim.Native.Nat.{_+_, _-_, _≤_, min};
 ghost use lib.IntN.{pos, natAbs};
 ghost use lib.ListN.{length};
 ghost use Rattle.whole.specs.Numbers.{clip};
 ghost use Rattle.whole.specs.Lists.{at};
 ghost use Rattle.strided.specs.Planes.{begins};
 ghost use Rattle.pixels.specs.Adds.{add-pixel, add-row, add-rows};
-ghost use Rattle.coefs.specs.Coefs.{found};
+ghost use Rattle.intops.specs.Searches.{found};
 ghost use Rattle.pixels.specs.Above.{first-above};
 ghost use Rattle.pixels.specs.Inner as Inner;
-use coefs::Found;
+use intops::Found;
 use intops::iclip;
-use itx_1d::Kind;
-use residual::leave;
+use levels::Kind;
 use strided::Spot;
 
 // v clipped to 0..top.
@@ -81,6 +80,17 @@ fn shift_pixel_8bpc(p: u8, v: i32) -> u8
     let up = pixel(v, 255) as u8;
     let q = less_8bpc(p, down);
     more_8bpc(q, up)
+}
+
+// The rounding of step 6; a WHT has none.
+fn leave(columns: Kind, v: i32) -> i32
+    requires { ⌜ natAbs v ≤ 16777216 ⌝ }
+    ensures { λ r. ⌜ r ≡ Inner.left columns v ⌝ }
+{
+    if let Kind::Wht = columns {
+        return v;
+    }
+    v + 8 >> 4
 }
 
 // The w numbers of t from `start` on, rounded, added to the w pixels from `from` on.
@@ -169,10 +179,10 @@ pub fn shift_block_8bpc(ps: &mut [u8], spot: Spot, v: i32)
     }
 }
 
-// Row y's numbers stand in t from y·step on.
+// The rounded numbers of t, added to the visible pixels of the block. Row y's stand in t from y·step on.
 pub fn add_block(ps: &mut [u16], spot: Spot, t: &[i32], step: usize, columns: Kind, top: u16)
     requires { ⌜ Inner.Adding spot step (now ps) (now t) ⌝ }
-    ensures { λ _. ⌜ now (ps .exit) ≡ add-rows top (now (ps .entry)) (begins spot) (λ y x. Inner.left columns (at (now (t .entry)) (y * step + x))) (spot .columns) (spot .rows) ⌝ }
+    ensures { λ _. ⌜ now (ps .exit) ≡ Inner.painted top columns step (now (ps .entry)) (now (t .entry)) spot ⌝ }
 {
     let offset = spot.offset;
     let stride = spot.stride;
@@ -186,7 +196,7 @@ pub fn add_block(ps: &mut [u16], spot: Spot, t: &[i32], step: usize, columns: Ki
 // The same on 8-bit pixels (E2).
 pub fn add_block_8bpc(ps: &mut [u8], spot: Spot, t: &[i32], step: usize, columns: Kind)
     requires { ⌜ Inner.Adding spot step (now ps) (now t) ⌝ }
-    ensures { λ _. ⌜ now (ps .exit) ≡ add-rows 255 (now (ps .entry)) (begins spot) (λ y x. Inner.left columns (at (now (t .entry)) (y * step + x))) (spot .columns) (spot .rows) ⌝ }
+    ensures { λ _. ⌜ now (ps .exit) ≡ Inner.painted 255 columns step (now (ps .entry)) (now (t .entry)) spot ⌝ }
 {
     let offset = spot.offset;
     let stride = spot.stride;
@@ -200,7 +210,7 @@ pub fn add_block_8bpc(ps: &mut [u8], spot: Spot, t: &[i32], step: usize, columns
 // As `add_block`, for blocks four wide. Those that are seen in full are apart, whose rows LLVM adds without a test.
 pub fn add_four(ps: &mut [u16], spot: Spot, t: &[i32], step: usize, columns: Kind, top: u16)
     requires { ⌜ Inner.Adding spot step (now ps) (now t) ⌝ }
-    ensures { λ _. ⌜ now (ps .exit) ≡ add-rows top (now (ps .entry)) (begins spot) (λ y x. Inner.left columns (at (now (t .entry)) (y * step + x))) (spot .columns) (spot .rows) ⌝ }
+    ensures { λ _. ⌜ now (ps .exit) ≡ Inner.painted top columns step (now (ps .entry)) (now (t .entry)) spot ⌝ }
 {
     if spot.columns == 4 {
         add_block(ps, spot.wide(4), t, step, columns, top);
@@ -212,7 +222,7 @@ pub fn add_four(ps: &mut [u16], spot: Spot, t: &[i32], step: usize, columns: Kin
 // The same on 8-bit pixels (E2).
 pub fn add_four_8bpc(ps: &mut [u8], spot: Spot, t: &[i32], step: usize, columns: Kind)
     requires { ⌜ Inner.Adding spot step (now ps) (now t) ⌝ }
-    ensures { λ _. ⌜ now (ps .exit) ≡ add-rows 255 (now (ps .entry)) (begins spot) (λ y x. Inner.left columns (at (now (t .entry)) (y * step + x))) (spot .columns) (spot .rows) ⌝ }
+    ensures { λ _. ⌜ now (ps .exit) ≡ Inner.painted 255 columns step (now (ps .entry)) (now (t .entry)) spot ⌝ }
 {
     if spot.columns == 4 {
         add_block_8bpc(ps, spot.wide(4), t, step, columns);

@@ -10,12 +10,13 @@ use mir.Val.{toZ, ofZ}
 use mir.ValLaws.{toZ-ofZ}
 use Rattle.whole.specs.Numbers.{low, high}
 use Rattle.whole.proofs.Sizes.{abs-fits}
-use Rattle.itx_1d.specs.declared.Kind.{Kind}
+use Rattle.levels.specs.declared.Kind.{Kind}
 use Rattle.itx_1d.specs.Inner.{Limited}
 use Rattle.bitdepth.specs.declared.Depth.{Depth}
 use Rattle.bitdepth.specs.declared.Depth.the-variants.{Eight, Ten, Twelve}
 use Rattle.bitdepth.specs.declared.Range.{Range}
-use Rattle.bitdepth.specs.Depths.{ends, row-range, column-range}
+use Rattle.bitdepth.specs.Depths.{row-range, column-range}
+use Rattle.bitdepth.specs.Inner.{ends}
 
 -- the m of a range
 pub record Reach (m : ℕ) : Type 0 where

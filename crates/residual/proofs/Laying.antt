@@ -13,7 +13,7 @@ use lib.ListN.{length}
 use mir.Facts.{and-yes}
 use Rattle.whole.specs.Lists.{at}
 use Rattle.whole.proofs.Counts.{last-or-less}
-use Rattle.av1.specs.Sides.{Side, of4, of8, of16, of32, len, side}
+use Rattle.levels.specs.Sides.{Side, of4, of8, of16, of32, len, side}
 use Rattle.itx_1d.specs.Inner.{source}
 use Rattle.itx_1d.proofs.Strides.{of-length, source-at, at-most-32}
 use Rattle.residual.specs.Inner.{fill, Laid}
@@ -58,14 +58,17 @@ pub laid-none : (n w : ℕ) (f : ℕ → ℕ → ℤ) (u : List ℤ) → length 
 laid-none n w f u long = record { rows = λ i l h g. (let x : ⊥ = omega arith in absurd x); long = long }
 
 -- one row more
-pub laid-more : (n w k : ℕ) (f : ℕ → ℕ → ℤ) (t u : List ℤ) → len (side n) ≡ n → k < n → w ≤ 32 → Laid n w k f t → u ≡ fill t (source n k * 32) (f k) w → Laid n w (k + 1) f u
+pub laid-more : (n w k : ℕ) (f : ℕ → ℕ → ℤ) (t u : List ℤ) → len (side n) ≡ n → k < n → w ≤ 32 → Laid n w k f t
+    → u ≡ fill t (source n k * 32) (f k) w → Laid n w (k + 1) f u
 laid-more n w k f t u e below narrow so-far is = record {
-  rows = λ i l h g. last-or-less i k (λ (j : ℕ). at u (source n j * 32 + l) ≡ f j l) (omega arith) (this l g) (λ q. other i l (omega arith) (λ z. omega arith) g ∙ so-far .rows i l q g);
+  rows = λ i l h g. last-or-less i k (λ (j : ℕ). at u (source n j * 32 + l) ≡ f j l) (omega arith) (this l g)
+      (λ q. other i l (omega arith) (λ z. omega arith) g ∙ so-far .rows i l q g);
   long = ap length is ∙ fill-length t (source n k * 32) (f k) w ∙ so-far .long;
 }
   where
     this : (l : ℕ) → l < w → at u (source n k * 32 + l) ≡ f k l
-    this l h = ap (λ (c : List ℤ). at c (source n k * 32 + l)) is ∙ fill-own t (source n k * 32) (f k) w l (omega (arith, so-far .long, place-in n e k below)) h
+    this l h = ap (λ (c : List ℤ). at c (source n k * 32 + l)) is
+        ∙ fill-own t (source n k * 32) (f k) w l (omega (arith, so-far .long, place-in n e k below)) h
 
     other : (i l : ℕ) → i < n → i ≢ k → l < w → at u (source n i * 32 + l) ≡ at t (source n i * 32 + l)
     other i l h d g =
@@ -73,16 +76,20 @@ laid-more n w k f t u e below narrow so-far is = record {
       where
         go : (b : Bool) → ltb (source n i) (source n k) ≡ b → at (fill t (source n k * 32) (f k) w) (source n i * 32 + l) ≡ at t (source n i * 32 + l)
         go true q = fill-before t (source n k * 32) (f k) w (source n i * 32 + l) (let z : source n i < source n k = ltb-true _ _ q in omega arith)
-        go false q = fill-after t (source n k * 32) (f k) w (source n i * 32 + l) (let z = above (source n k) (source n i) (ltb-false _ _ q) (apart n e i k h below d) in omega arith)
+        go false q = fill-after t (source n k * 32) (f k) w (source n i * 32 + l)
+            (let z = above (source n k) (source n i) (ltb-false _ _ q) (apart n e i k h below d) in omega arith)
 
 -- ---- w-wide rows, one after the other
 
 -- one row more
-pub rows-more : (w y : ℕ) (f : ℕ → ℕ → ℤ) (t u : List ℤ) → length t ≡ 1024 → suc y * w ≤ 1024 → ((v x : ℕ) → v < y → x < w → at t (v * w + x) ≡ f v x) → u ≡ fill t (y * w) (f y) w → (v x : ℕ) → v < y + 1 → x < w → at u (v * w + x) ≡ f v x
+pub rows-more : (w y : ℕ) (f : ℕ → ℕ → ℤ) (t u : List ℤ) → length t ≡ 1024 → suc y * w ≤ 1024
+    → ((v x : ℕ) → v < y → x < w → at t (v * w + x) ≡ f v x) → u ≡ fill t (y * w) (f y) w → (v x : ℕ) → v < y + 1 → x < w
+    → at u (v * w + x) ≡ f v x
 rows-more w y f t u long room so-far is v x h g =
     last-or-less v y (λ (i : ℕ). at u (i * w + x) ≡ f i x) (omega arith)
     (ap (λ (c : List ℤ). at c (y * w + x)) is ∙ fill-own t (y * w) (f y) w x (omega (arith, long)) g)
-    (λ q. ap (λ (c : List ℤ). at c (v * w + x)) is ∙ fill-before t (y * w) (f y) w (v * w + x) (omega (arith, mul-le-mul-right {m = suc v} {n = y} w q)) ∙ so-far v x q g)
+    (λ q. ap (λ (c : List ℤ). at c (v * w + x)) is
+    ∙ fill-before t (y * w) (f y) w (v * w + x) (omega (arith, mul-le-mul-right {m = suc v} {n = y} w q)) ∙ so-far v x q g)
 
 pub rest-stays : (w y : ℕ) (f : ℕ → ℕ → ℤ) (t u : List ℤ) → u ≡ fill t (y * w) (f y) w → (i : ℕ) → (y + 1) * w ≤ i → at u i ≡ at t i
 rest-stays w y f t u is i h = ap (λ (c : List ℤ). at c i) is ∙ fill-after t (y * w) (f y) w i (omega arith)

@@ -1,5 +1,4 @@
 -- Laws of the residual.
-pub mod WhtOrNot
 pub mod Lines
 pub mod Fills
 pub mod Places

@@ -13,7 +13,7 @@ use lib.ListN.{length, take, drop, length-drop, List·getD-append, List·getD-eq
 use lib.Seq.{getD-take, getD-drop, length-take-le, getD-append-add}
 use Rattle.whole.specs.Lists.{at, tab}
 use Rattle.whole.proofs.Counts.{tab-ext}
-use Rattle.av1.specs.Sides.{len, side}
+use Rattle.levels.specs.Sides.{len, side}
 use Rattle.itx_1d.specs.Passes.{Passed}
 use Rattle.itx_1d.specs.Calls.{taken}
 use Rattle.itx_1d.specs.Inner.{Passable}
@@ -36,7 +36,8 @@ back t x d = putMid x (length t - x) t d
 
 module _ (t d : List ℤ) (x : ℕ) (b : x ≤ length t) where
   back-before : (j : ℕ) → j < x → at (back t x d) j ≡ at t j
-  back-before j l = List·getD-append (take x t) (d ++ postOf x (length t - x) t) (pos 0) j (omega (arith, length-take-le x t b)) ∙ getD-take x t j (pos 0) l
+  back-before j l = List·getD-append (take x t) (d ++ postOf x (length t - x) t) (pos 0) j (omega (arith, length-take-le x t b))
+      ∙ getD-take x t j (pos 0) l
 
   back-from : (k : ℕ) → k < length d → at (back t x d) (x + k) ≡ at d k
   back-from k l =
@@ -78,8 +79,7 @@ module _ (from s n : ℕ) (u : List ℤ) (is-length : len (side n) ≡ n) (some 
     pub line-own : (j : ℕ) → j < n → at (back u from d) (from + j * s) ≡ at (φ (line from s n u) .values) j
     line-own j l =
         back-from u d from from-inside (j * s) (omega (arith, d-length, reach j l))
-        ∙ ap (λ (xs : List ℤ). at xs (j * s)) (done .elements)
-        ∙ put-at (part u from) s values some n j l line-inside
+        ∙ ap (λ (xs : List ℤ). at xs (j * s)) (done .elements) ∙ put-at (part u from) s values some n j l line-inside
         ∙ ap (λ (xs : List ℤ). at (φ xs .values) j) taken-is
 
     pub line-length : length (back u from d) ≡ length u
@@ -94,15 +94,12 @@ module _ (from s n : ℕ) (u : List ℤ) (is-length : len (side n) ≡ n) (some 
             List·getD-eq-default (back u from d) (pos 0) (omega (arith, line-length)) ∙ sym (List·getD-eq-default u (pos 0) q)
         go true true e g = back-before u d from from-inside i (ltb-true _ _ g)
         go true false e g =
-            let h : i < length u = ltb-true _ _ e in
-            let q : from ≤ i = ltb-false _ _ g in
-            let p : i ≡ from + (i - from) = omega arith in
-            ap (at (back u from d)) p
+            let h : i < length u = ltb-true _ _ e in let q : from ≤ i = ltb-false _ _ g in
+            let p : i ≡ from + (i - from) = omega arith in ap (at (back u from d)) p
             ∙ back-from u d from from-inside (i - from) (omega (arith, d-length))
             ∙ ap (λ (xs : List ℤ). at xs (i - from)) (done .elements)
             ∙ kept (part u from) s values some n (i - from) (λ j v z. f j v (omega arith))
-            ∙ part-at u from (i - from) (omega arith)
-            ∙ ap (at u) (sym p)
+            ∙ part-at u from (i - from) (omega arith) ∙ ap (at u) (sym p)
 
     pub line-mark : r ≡ φ (line from s n u) .mark
     line-mark = done .mark ∙ ap (λ (xs : List ℤ). φ xs .mark) taken-is

@@ -24,9 +24,6 @@ module _ (p : Plan) (s : Sized p) where
   pub area : p .h * p .w ≤ 1024
   area = mul-le-mul h-small w-small
 
-  pub in-block : (y x : ℕ) → y < p .h → x < p .w → y * p .w + x < 1024
-  in-block y x l g = omega (arith, by-row (p .w) (p .h) y x l g, area)
-
 -- a place in w-wide rows tells its column
 pub same-column : (w y u i x : ℕ) → i < w → x < w → y * w + i ≡ u * w + x → i ≡ x
 same-column w y u i x l g e =

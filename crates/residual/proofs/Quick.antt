@@ -9,7 +9,7 @@ use lib.IntN.{ℤ, pos, natAbs}
 use lib.ListN.{length, replicate, List·getD-append}
 use Rattle.whole.specs.Lists.{at, tab}
 use Rattle.whole.proofs.Counts.{tab-at, tab-ext, tab-length}
-use Rattle.av1.specs.Sides.{Side, of4, of8, of16, of32, len, bits, side}
+use Rattle.levels.specs.Sides.{Side, of4, of8, of16, of32, len, bits, side}
 use Rattle.av1.specs.Network.{Step, run}
 use Rattle.av1.specs.Values.{clipped, hits}
 use Rattle.dct.specs.Halves.{before, last}
@@ -19,7 +19,7 @@ use Rattle.lanes.specs.Stages.{Left, Ready}
 use Rattle.lanes.proofs.Lanes.{lane-at}
 use Rattle.lanes.proofs.Chain.{parted}
 use Rattle.lanes.proofs.Tail.{below, run-length, run-front, hits-front}
-use Rattle.itx_1d.specs.declared.Kind.the-variants.{Dct}
+use Rattle.levels.specs.declared.Kind.the-variants.{Dct}
 use Rattle.itx_1d.specs.Passes.{pass}
 use Rattle.itx_1d.specs.Inner.{source, gathered, Ranged}
 use Rattle.itx_1d.proofs.Strides.{of-length, source-at, odd-high, at-most-32}
@@ -45,17 +45,20 @@ module _ {n w : ℕ} {f : ℕ → ℕ → ℤ} {u : List ℤ} (e : len (side n) 
   slot-is l j h g = ap (λ (i : ℕ). at u (i * 32 + l)) (sym (back n e j g)) ∙ laid .rows (source n j) l (source-at n e j g .below) h
 
   -- with `tx64` the upper half of the elements is zero, and so are the odd rows
-  pub ready : (tx64 : Bool) {lo hi : ℤ} → Ranged lo hi → w ≤ 32 → ((i l : ℕ) → i < n → l < w → natAbs (f i l) ≤ 524288) → (tx64 ≡ true → (i l : ℕ) → n / 2 ≤ i → i < n → l < w → f i l ≡ pos 0)
-      → Ready tx64 (len (side n)) w u lo hi
+  pub ready : (tx64 : Bool) {lo hi : ℤ} → Ranged lo hi → w ≤ 32 → ((i l : ℕ) → i < n → l < w → natAbs (f i l) ≤ 524288)
+      → (tx64 ≡ true → (i l : ℕ) → n / 2 ≤ i → i < n → l < w → f i l ≡ pos 0) → Ready tx64 (len (side n)) w u lo hi
   ready tx64 g narrow small zeros = record {
     long = laid .long;
     width = narrow;
-    inside = λ i l p q. (let h : i < n = subst (λ (j : ℕ). i < j) e p in subst⁻¹ (λ (z : ℤ). natAbs z ≤ reach tx64 i) (slot-is l i q h) (go i l h q tx64 refl (eqb (i % 2) 1) refl));
+    inside = λ i l p q. (let h : i < n = subst (λ (j : ℕ). i < j) e p in
+        subst⁻¹ (λ (z : ℤ). natAbs z ≤ reach tx64 i) (slot-is l i q h) (go i l h q tx64 refl (eqb (i % 2) 1) refl));
     ends = ends-of g;
   }
     where
-      go : (i l : ℕ) → i < n → l < w → (b : Bool) → tx64 ≡ b → (odd : Bool) → eqb (i % 2) 1 ≡ odd → natAbs (f (source n i) l) ≤ cond (b && odd) 0 524288
-      go i l h q true t true o = subst⁻¹ (λ (z : ℤ). natAbs z ≤ 0) (zeros t (source n i) l (odd-high n e i h o) (source-at n e i h .below) q) (omega arith)
+      go : (i l : ℕ) → i < n → l < w → (b : Bool) → tx64 ≡ b → (odd : Bool) → eqb (i % 2) 1 ≡ odd
+          → natAbs (f (source n i) l) ≤ cond (b && odd) 0 524288
+      go i l h q true t true o = subst⁻¹ (λ (z : ℤ). natAbs z ≤ 0)
+          (zeros t (source n i) l (odd-high n e i h o) (source-at n e i h .below) q) (omega arith)
       go i l h q true t false o = small (source n i) l (source-at n e i h .below) q
       go i l h q false t odd o = small (source n i) l (source-at n e i h .below) q
 
@@ -83,7 +86,9 @@ module _ {n w : ℕ} {f : ℕ → ℕ → ℤ} {u : List ℤ} (e : len (side n) 
 
     through : Through (bits (side n) - 1) lo hi (gathered xs n) (run (clipped lo hi) (halves n) (gathered xs n)) false
     through =
-        let quiet = sym (hits-front lo hi (halves n) n front (replicate (32 - n) (pos 0)) front-length ours ∙ sym (hits-front lo hi (halves n) n front rest front-length ours) ∙ ap (hits lo hi (halves n)) (sym lane-is) ∙ left .quiet l l-in) in
+        let quiet = sym (hits-front lo hi (halves n) n front (replicate (32 - n) (pos 0)) front-length ours
+        ∙ sym (hits-front lo hi (halves n) n front rest front-length ours) ∙ ap (hits lo hi (halves n)) (sym lane-is)
+        ∙ left .quiet l l-in) in
         record { elements = refl; mark = quiet }
 
     pub unmarked : pass Dct (side n) (natAbs lo) xs .mark ≡ false
@@ -91,14 +96,14 @@ module _ {n w : ℕ} {f : ℕ → ℕ → ℤ} {u : List ℤ} (e : len (side n) 
 
     pub value : (y : ℕ) → y < n → at v (y * 32 + l) ≡ at (pass Dct (side n) (natAbs lo) xs .values) y
     value y h =
-        let y-in : y < 32 = omega (arith, at-most-32 n e) in
-        let out = run (clipped lo hi) (halves n) front in
+        let y-in : y < 32 = omega (arith, at-most-32 n e) in let out = run (clipped lo hi) (halves n) front in
         let out-in : y < length out = omega (arith, run-length (clipped lo hi) (halves n) front, front-length) in
-        sym (lane-at v l y y-in)
-        ∙ ap (λ (ys : List ℤ). at ys y) (left .elements l l-in ∙ ap (run (clipped lo hi) (halves n)) lane-is ∙ run-front (clipped lo hi) (halves n) n front rest front-length ours)
-        ∙ List·getD-append out rest (pos 0) y out-in
-        ∙ sym (ap (λ (ys : List ℤ). at ys y) (run-front (clipped lo hi) (halves n) n front (replicate (32 - n) (pos 0)) front-length ours) ∙ List·getD-append out (replicate (32 - n) (pos 0)) (pos 0) y out-in)
-        ∙ value-is n xs g e refl through y
+        sym (lane-at v l y y-in) ∙ ap (λ (ys : List ℤ). at ys y)
+        (left .elements l l-in ∙ ap (run (clipped lo hi) (halves n)) lane-is
+        ∙ run-front (clipped lo hi) (halves n) n front rest front-length ours) ∙ List·getD-append out rest (pos 0) y out-in
+        ∙ sym (ap (λ (ys : List ℤ). at ys y)
+        (run-front (clipped lo hi) (halves n) n front (replicate (32 - n) (pos 0)) front-length ours)
+        ∙ List·getD-append out (replicate (32 - n) (pos 0)) (pos 0) y out-in) ∙ value-is n xs g e refl through y
 
 -- none was given up
 pub all-left : {ss : List Step} {lo hi : ℤ} {w n : ℕ} {t u : List ℤ} → Left ss lo hi w t u n → w ≤ n → Left ss lo hi w t u w

@@ -7,12 +7,10 @@ use native.Mathlib.Nat.{le-trans}
 use native.Mathlib.Omega.{arith}
 use lib.Dec.{eqb, lit≤}
 use lib.IntN.{ℤ, pos, _*ℤ_, natAbs}
-use Rattle.whole.specs.Numbers.{_>>_, round2, clip}
-use Rattle.whole.proofs.Clips.{clip-abs}
+use Rattle.whole.specs.Numbers.{_>>_, round2}
 use Rattle.whole.proofs.Machine.{var, lit, _⊕_, _⊛_, _≫_, bound}
-use Rattle.levels.specs.declared.Plan.{Plan}
-use Rattle.itx_1d.specs.declared.Kind.{Kind}
-use Rattle.itx_1d.proofs.Manners.{split}
+use Rattle.levels.specs.declared.Kind.{Kind}
+use Rattle.levels.proofs.Manners.{split}
 use Rattle.residual.specs.Blocks.{prescale}
 use Rattle.residual.specs.Inner.{entering}
 

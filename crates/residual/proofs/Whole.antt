@@ -13,14 +13,15 @@ use Rattle.whole.specs.Numbers.{round2, clip, low, high}
 use Rattle.whole.specs.Lists.{at, tab}
 use Rattle.whole.proofs.Clips.{clip-abs}
 use Rattle.whole.proofs.Counts.{tab-ext, any-ext}
-use Rattle.av1.specs.Sides.{Side, side}
-use Rattle.itx_1d.specs.declared.Kind.{Kind}
-use Rattle.itx_1d.specs.declared.Kind.the-variants.{Wht}
+use Rattle.levels.specs.Sides.{Side, side}
+use Rattle.levels.specs.declared.Kind.{Kind}
+use Rattle.levels.specs.declared.Kind.the-variants.{Wht}
 use Rattle.itx_1d.specs.Passes.{Passed, av1-pass}
-use Rattle.itx_1d.specs.Manners.{is-wht}
+use Rattle.levels.specs.Manners.{is-wht}
 use Rattle.spec_engine.proofs.Sizes as Spec-sizes
 use Rattle.itx_1d.specs.Inner.{most}
-use Rattle.itx_1d.proofs.Manners.{split, at-most, wht-alone}
+use Rattle.levels.proofs.Manners.{split, wht-alone}
+use Rattle.itx_1d.proofs.Most.{at-most}
 use Rattle.itx_1d.proofs.PassLaws.{pass-small}
 use Rattle.itx_1d.proofs.Strides.{not-0}
 use Rattle.bitdepth.specs.declared.Depth.{Depth}
@@ -52,7 +53,8 @@ pub record Left (kind : Kind) (v : ℤ) : Type 0 where
   pub most : natAbs v ≤ 20919545
   pub of-wht : T (is-wht kind) → natAbs v ≤ 2621442
 
-rows-left : (e : Engine) (kind : Kind) (n : Side) (m : ℕ) (xs : List ℤ) → m ≤ 524288 → T (serves e kind) → ((i : ℕ) → natAbs (at xs i) ≤ 524288) → (i : ℕ) → Left kind (at (passed-by e kind n m xs .values) i)
+rows-left : (e : Engine) (kind : Kind) (n : Side) (m : ℕ) (xs : List ℤ) → m ≤ 524288 → T (serves e kind)
+    → ((i : ℕ) → natAbs (at xs i) ≤ 524288) → (i : ℕ) → Left kind (at (passed-by e kind n m xs .values) i)
 rows-left First kind n m xs g t h i = let l = pass-small n m xs kind 524288 g h i in record { most = le-trans l (lit≤ tt); of-wht = λ w. l }
 rows-left Spec kind n m xs g t h i = record {
   most = Spec-sizes.row-small n xs kind t h i;
@@ -72,7 +74,8 @@ columns-left e along kind n m xs both g t h i = go (is-wht along) both h
     other First t h = le-trans (pass-small n m xs kind 131072 g h i) (lit≤ tt)
     other Spec t h = le-trans (Spec-sizes.column-small n xs kind t h i) (lit≤ tt)
 
-    go : (b : Bool) → (T b → kind ≡ Wht) → ((j : ℕ) → natAbs (at xs j) ≤ cond b 2621442 131072) → natAbs (at (passed-by e kind n m xs .values) i) ≤ 16777216
+    go : (b : Bool) → (T b → kind ≡ Wht) → ((j : ℕ) → natAbs (at xs j) ≤ cond b 2621442 131072)
+        → natAbs (at (passed-by e kind n m xs .values) i) ≤ 16777216
     go true f h = subst⁻¹ (λ (k : Kind). natAbs (at (passed-by e k n m xs .values) i) ≤ 16777216) (f tt) (wht e h)
     go false f h = other e t h
 
@@ -83,20 +86,21 @@ at-tab P (suc n) f z h zero = h 0 (omega arith)
 at-tab P (suc n) f z h (suc i) = at-tab P n (λ j. f (suc j)) z (λ j l. h (suc j) (omega arith)) i
 
 -- what holds of zero and of the rows holds of every number of the block
-pub at-holds : {n : ℕ} (P : ℤ → Type 0) (w k : ℕ) (f : ℕ → ℕ → ℤ) (t : List ℤ) → 0 < w → HoldsIn n w k f t → P (pos 0) → ((y x : ℕ) → y < k → x < w → P (f y x)) → (i : ℕ) → P (at t i)
+pub at-holds : {n : ℕ} (P : ℤ → Type 0) (w k : ℕ) (f : ℕ → ℕ → ℤ) (t : List ℤ) → 0 < w → HoldsIn n w k f t → P (pos 0)
+    → ((y x : ℕ) → y < k → x < w → P (f y x)) → (i : ℕ) → P (at t i)
 at-holds P w k f t some h z g i = go (ltb i (k * w)) refl
   where
     go : (b : Bool) → ltb i (k * w) ≡ b → P (at t i)
     go true e =
-        let l : i < k * w = ltb-true _ _ e in
-        let y<k : i / w < k = div-lt-iff-lt-mul some .1 l in
+        let l : i < k * w = ltb-true _ _ e in let y<k : i / w < k = div-lt-iff-lt-mul some .1 l in
         let x<w : i % w < w = mod-lt i some in
         subst P (sym (h .rows (i / w) (i % w) y<k x<w) ∙ ap (at t) (div-add-mod' i w)) (g (i / w) (i % w) y<k x<w)
     go false e = subst⁻¹ P (h .rest i (ltb-false _ _ e)) z
 
 -- ---- the steps together
 
-module _ {n : ℕ} (e : Engine) (p : Plan) (d : Depth) (c : List ℤ) (r : ℕ) (t₁ t₂ t₃ : List ℤ) (m₁ m₂ : Bool) (sized : Sized p) (served : Served e p) (room : p .h * p .w ≤ n) (coefs : Coefs p c) (some-rows : r ≤ p .h)
+module _ {n : ℕ} (e : Engine) (p : Plan) (d : Depth) (c : List ℤ) (r : ℕ) (t₁ t₂ t₃ : List ℤ) (m₁ m₂ : Bool) (sized : Sized p)
+    (served : Served e p) (room : p .h * p .w ≤ n) (coefs : Coefs p c) (some-rows : r ≤ p .h)
     (rowed : RowsAreIn n e p (row-range d) c r t₁ m₁)
     (rounded : t₂ ≡ fill t₁ 0 (λ i. rounding p (low (column-range d)) (high (column-range d)) (at t₁ i)) (r * p .w))
   where
@@ -112,20 +116,24 @@ module _ {n : ℕ} (e : Engine) (p : Plan) (d : Depth) (c : List ℤ) (r : ℕ) 
     -- a row leaves more than a WHT's does where nothing is clipped
     row-small : (y x : ℕ) → y < r → Left (p .rows) (at (row-by e p (row-range d) c y .values) x)
     row-small y x l =
-        rows-left e (p .rows) (side (p .w)) (row-range d) (tab (p .w) (loaded p c y)) (row-range-small d) (served .rows) (at-tab (λ z. natAbs z ≤ 524288) (p .w) (loaded p c y) (lit≤ tt) (λ i g. loaded-small y i l g)) x
+        rows-left e (p .rows) (side (p .w)) (row-range d) (tab (p .w) (loaded p c y)) (row-range-small d) (served .rows)
+        (at-tab (λ z. natAbs z ≤ 524288) (p .w) (loaded p c y) (lit≤ tt) (λ i g. loaded-small y i l g)) x
 
     pub rowed-left : (i : ℕ) → Left (p .rows) (at t₁ i)
-    rowed-left = at-holds (Left (p .rows)) (p .w) r _ t₁ (not-0 (p .w) (sized .width)) (rowed .elements) (record { most = lit≤ tt; of-wht = λ t. lit≤ tt }) (λ y x l g. row-small y x l)
+    rowed-left = at-holds (Left (p .rows)) (p .w) r _ t₁ (not-0 (p .w) (sized .width)) (rowed .elements)
+        (record { most = lit≤ tt; of-wht = λ t. lit≤ tt }) (λ y x l g. row-small y x l)
 
     pub rowed-small : (i : ℕ) → natAbs (at t₁ i) ≤ 20919545
     rowed-small i = rowed-left i .most
 
     -- what stands in row y, column x after step 4
     in-rows : (i : ℕ) → i < r * p .w → at t₂ i ≡ between (at t₁ i)
-    in-rows i l = ap (λ (t : List ℤ). at t i) rounded ∙ ap (at (fill t₁ 0 (λ j. between (at t₁ j)) (r * p .w))) (omega arith) ∙ fill-own t₁ 0 (λ j. between (at t₁ j)) (r * p .w) i (omega (arith, inside)) l
+    in-rows i l = ap (λ (t : List ℤ). at t i) rounded ∙ ap (at (fill t₁ 0 (λ j. between (at t₁ j)) (r * p .w))) (omega arith)
+        ∙ fill-own t₁ 0 (λ j. between (at t₁ j)) (r * p .w) i (omega (arith, inside)) l
 
     after-rows : (i : ℕ) → r * p .w ≤ i → at t₂ i ≡ pos 0
-    after-rows i l = ap (λ (t : List ℤ). at t i) rounded ∙ fill-after t₁ 0 (λ j. between (at t₁ j)) (r * p .w) i (omega arith) ∙ rowed .elements .rest i l
+    after-rows i l = ap (λ (t : List ℤ). at t i) rounded ∙ fill-after t₁ 0 (λ j. between (at t₁ j)) (r * p .w) i (omega arith)
+        ∙ rowed .elements .rest i l
 
     middle-is : (y x : ℕ) → x < p .w → at t₂ (y * p .w + x) ≡ middle (way-by e p d) c r y x
     middle-is y x g = go (ltb y r) refl
@@ -144,7 +152,8 @@ module _ {n : ℕ} (e : Engine) (p : Plan) (d : Depth) (c : List ℤ) (r : ℕ) 
         go Twelve = clip-abs z (low 131072) (high 131072) (lit≤ tt) (lit≤ tt)
 
     between-small : (z : ℤ) → Left (p .rows) z → natAbs (between z) ≤ cond (is-wht (p .rows)) 2621442 131072
-    between-small z l = chosen (is-wht (p .rows)) z (clip (round2 z (p .shift)) (low (column-range d)) (high (column-range d))) (l .of-wht) (ends-small (round2 z (p .shift)))
+    between-small z l = chosen (is-wht (p .rows)) z (clip (round2 z (p .shift)) (low (column-range d)) (high (column-range d)))
+        (l .of-wht) (ends-small (round2 z (p .shift)))
       where
         chosen : (b : Bool) (v w : ℤ) → (T b → natAbs v ≤ 2621442) → natAbs w ≤ 131072 → natAbs (cond b v w) ≤ cond b 2621442 131072
         chosen true v w f g = f tt
@@ -154,11 +163,13 @@ module _ {n : ℕ} (e : Engine) (p : Plan) (d : Depth) (c : List ℤ) (r : ℕ) 
     block-small i = go (ltb i (r * p .w)) refl
       where
         go : (b : Bool) → ltb i (r * p .w) ≡ b → natAbs (at t₂ i) ≤ cond (is-wht (p .rows)) 2621442 131072
-        go true e = subst⁻¹ (λ (z : ℤ). natAbs z ≤ cond (is-wht (p .rows)) 2621442 131072) (in-rows i (ltb-true _ _ e)) (between-small (at t₁ i) (rowed-left i))
+        go true e = subst⁻¹ (λ (z : ℤ). natAbs z ≤ cond (is-wht (p .rows)) 2621442 131072) (in-rows i (ltb-true _ _ e))
+            (between-small (at t₁ i) (rowed-left i))
         go false e = subst⁻¹ (λ (z : ℤ). natAbs z ≤ cond (is-wht (p .rows)) 2621442 131072) (after-rows i (ltb-false _ _ e)) (omega arith)
 
     pub for-columns : (i : ℕ) → natAbs (at t₂ i) ≤ most (p .columns)
-    for-columns i = le-trans (block-small i) (split (λ k. k ≤ most (p .columns)) (p .rows) 2621442 131072 (λ t. subst⁻¹ (λ (k : Kind). 2621442 ≤ most k) (sized .wht-both t) (lit≤ tt)) (le-trans (lit≤ tt) (at-most (p .columns))))
+    for-columns i = le-trans (block-small i) (split (λ k. k ≤ most (p .columns)) (p .rows) 2621442 131072
+        (λ t. subst⁻¹ (λ (k : Kind). 2621442 ≤ most k) (sized .wht-both t) (lit≤ tt)) (le-trans (lit≤ tt) (at-most (p .columns))))
 
     module _ (columned : ColumnsAreIn n e (p .columns) (column-range d) (p .w) (p .h) t₂ (p .w) t₃ m₂) where
       column-is : (x : ℕ) → x < p .w → column-by e (p .columns) (column-range d) (p .w) (p .h) t₂ x ≡ column (way-by e p d) c r x
@@ -167,8 +178,10 @@ module _ {n : ℕ} (e : Engine) (p : Plan) (d : Depth) (c : List ℤ) (r : ℕ) 
       column-small : (y x : ℕ) → y < p .h → x < p .w → natAbs (at t₃ (y * p .w + x)) ≤ 16777216
       column-small y x l g =
           subst⁻¹ (λ (z : ℤ). natAbs z ≤ 16777216) (columned .elements .passed y x l g)
-          (columns-left e (p .rows) (p .columns) (side (p .h)) (column-range d) (tab (p .h) (λ v. at t₂ (v * p .w + x))) (sized .wht-both) (column-range-small d) (served .columns)
-          (at-tab (λ z. natAbs z ≤ cond (is-wht (p .rows)) 2621442 131072) (p .h) (λ v. at t₂ (v * p .w + x)) (omega arith) (λ v k. block-small (v * p .w + x))) y)
+          (columns-left e (p .rows) (p .columns) (side (p .h)) (column-range d) (tab (p .h) (λ v. at t₂ (v * p .w + x)))
+          (sized .wht-both) (column-range-small d) (served .columns)
+          (at-tab (λ z. natAbs z ≤ cond (is-wht (p .rows)) 2621442 131072) (p .h) (λ v. at t₂ (v * p .w + x)) (omega arith)
+          (λ v k. block-small (v * p .w + x))) y)
 
       pub resolved : ResolvedIn n e p d c r t₃ (m₁ || m₂)
       resolved = record {

@@ -6,9 +6,9 @@ use lib.Dec.{eqb, ltb}
 use lib.IntN.{ℤ, pos, _+ℤ_, _*ℤ_}
 use Rattle.whole.specs.Numbers.{_>>_, round2, clip, low, high}
 use Rattle.whole.specs.Lists.{at, tab, any}
-use Rattle.av1.specs.Sides.{Side, side}
-use Rattle.itx_1d.specs.declared.Kind.{Kind}
-use Rattle.itx_1d.specs.Manners.{is-wht}
+use Rattle.levels.specs.Sides.{Side, side}
+use Rattle.levels.specs.declared.Kind.{Kind}
+use Rattle.levels.specs.Manners.{if-wht}
 use Rattle.itx_1d.specs.Passes.{Passed, pass, av1-pass}
 use Rattle.spec_engine.specs.Arrays.{specified}
 use Rattle.bitdepth.specs.declared.Depth.{Depth}
@@ -55,10 +55,6 @@ module _ (𝓦 : Way) (c : List ℤ) where
 -- step 2: "If one side is twice the other, each coefficient v becomes 181v + 128 >> 8."
 unfoldable pub prescale : ℕ → ℕ → ℤ → ℤ
 prescale w h v = cond (eqb (w * 2) h || eqb (h * 2) w) (round2 (v *ℤ pos 181) 8) v
-
--- a for WHT_WHT, b for the other types
-abbrev pub if-wht : Kind → ℤ → ℤ → ℤ
-if-wht kind a b = cond (is-wht kind) a b
 
 -- the two engines differ in the passes alone: document 01's; and, for E8, the AV1 specification's, which clip nothing and have no mark
 abbrev pub passed-by : Engine → Kind → Side → ℕ → List ℤ → Passed

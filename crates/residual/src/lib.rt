@@ -6,7 +6,8 @@ ghost use lib.IntN.{ℤ, natAbs};
 ghost use lib.ListN.{length};
 ghost use Rattle.whole.specs.Numbers.{round2, clip};
 ghost use Rattle.whole.specs.Lists.{at, any};
-ghost use Rattle.av1.specs.Sides.{side};
+ghost use Rattle.levels.specs.Sides.{side};
+ghost use Rattle.levels.specs.Manners.{if-wht};
 ghost use lib.Dec.{T};
 ghost use Rattle.itx_1d.specs.Passes.{identity};
 ghost use Rattle.itx_1d.specs.Inner.{Passing};
@@ -15,12 +16,12 @@ ghost use Rattle.residual.specs.Inner as Inner;
 use bitdepth::Depth;
 use bitdepth::Range;
 use intops::iclip;
-use itx_1d::Kind;
 use itx_1d::REV;
 use itx_1d::identity_of;
 use itx_1d::inv_1d;
 use itx_1d::wht4;
 use lanes::dct;
+use levels::Kind;
 use levels::Plan;
 use spec_engine::inverse;
 
@@ -60,23 +61,12 @@ fn rounded(v: i32, shift: u32) -> i32
 // Step 4; a WHT has none.
 fn between(rows: Kind, shift: u32, v: i32, min: i32, max: i32) -> i32
     requires { ⌜ (natAbs v ≤ 1073741823) × (shift ≤ 2) ⌝ }
-    ensures { λ r. ⌜ r ≡ Blocks.if-wht rows v (clip (round2 v shift) min max) ⌝ }
+    ensures { λ r. ⌜ r ≡ if-wht rows v (clip (round2 v shift) min max) ⌝ }
 {
     if let Kind::Wht = rows {
         return v;
     }
     iclip(rounded(v, shift), min, max)
-}
-
-// The rounding of step 6; a WHT has none.
-pub fn leave(columns: Kind, v: i32) -> i32
-    requires { ⌜ natAbs v ≤ 16777216 ⌝ }
-    ensures { λ r. ⌜ r ≡ Blocks.if-wht columns v (round2 v 4) ⌝ }
-{
-    if let Kind::Wht = columns {
-        return v;
-    }
-    v + 8 >> 4
 }
 
 // The shortcut's number: what DCT_DCT with eob 0 adds to every pixel.
@@ -96,7 +86,8 @@ pub fn shortcut(plan: Plan, v: i32) -> i32
 // Row y of the coefficients, which stand column by column.
 fn load_row(t: &mut [i32], plan: Plan, coeff: &[i32], y: usize)
     requires { ⌜ Inner.RowLoads plan (now coeff) y (now t) ⌝ }
-    ensures { λ _. ⌜ now (t .exit) ≡ Inner.fill (now (t .entry)) (y * plan .w) (λ x. Inner.entering (plan .rows) (plan .w) (plan .h) (at (now (coeff .entry)) (y + x * plan .h))) (plan .w) ⌝ }
+    ensures { λ _. ⌜ now (t .exit) ≡ Inner.fill (now (t .entry)) (y * plan .w)
+        (λ x. Inner.entering (plan .rows) (plan .w) (plan .h) (at (now (coeff .entry)) (y + x * plan .h))) (plan .w) ⌝ }
 {
     let rows = plan.rows;
     let w = plan.w;
@@ -122,8 +113,8 @@ fn round(t: &mut [i32], plan: Plan, n: usize, min: i32, max: i32)
     }
 }
 
-// A pass on a row of the block, by either engine. The second takes no range, and has no mark. Rows and columns have a function each: the compiler then
-// calls both engines' passes, and puts neither into the other's way, whose stack it would take.
+// A pass on a row of the block, by either engine. The second takes no range, and has no mark. Rows and columns have a function each: the
+// compiler then calls both engines' passes, and puts neither into the other's way, whose stack it would take.
 fn row_by(engine: Engine, kind: Kind, c: &mut [i32], n: usize, min: i32, max: i32) -> bool
     requires { ⌜ Passing kind (now c) n 1 min max × T (Blocks.serves engine kind) ⌝ }
     ensures { λ r. ⌜ Inner.Made (Blocks.passed-by engine kind (side n) (natAbs min)) n 1 (now (c .entry)) (now (c .exit)) r ⌝ }
@@ -261,7 +252,8 @@ fn quick_rows(
     max: i32,
 ) -> bool
     requires { ⌜ Inner.RowsQuick plan (now rev) (now coeff) r min max (now t) (now u) ⌝ }
-    ensures { λ q. ⌜ Inner.Quickly q (Inner.RowsAre plan (natAbs min) (now (coeff .entry)) r (now (t .exit)) Bool.false) (now (t .entry)) (now (t .exit)) × (length (now (u .exit)) ≡ 1024) ⌝ }
+    ensures { λ q. ⌜ Inner.Quickly q (Inner.RowsAre plan (natAbs min) (now (coeff .entry)) r (now (t .exit)) Bool.false)
+        (now (t .entry)) (now (t .exit)) × (length (now (u .exit)) ≡ 1024) ⌝ }
 {
     load(&mut *u, rev, plan, coeff, r);
     let left = dct(&mut *u, r, plan.w, false, min, max);
@@ -369,7 +361,8 @@ fn quick_columns(
     max: i32,
 ) -> bool
     requires { ⌜ Inner.ColumnsPass Kind.Dct w h min max (now t) × Inner.Lends (now rev) (now u) × Inner.RowsFrom r w h (now t) ⌝ }
-    ensures { λ q. ⌜ Inner.Quickly q (Inner.ColumnsAre Kind.Dct (natAbs min) w h (now (t .entry)) w (now (t .exit)) Bool.false) (now (t .entry)) (now (t .exit)) ⌝ }
+    ensures { λ q. ⌜ Inner.Quickly q
+        (Inner.ColumnsAre Kind.Dct (natAbs min) w h (now (t .entry)) w (now (t .exit)) Bool.false) (now (t .entry)) (now (t .exit)) ⌝ }
 {
     lay(&mut *u, rev, &*t, w, h);
     let left = dct(&mut *u, w, h, r * 2 <= h, min, max);
@@ -390,7 +383,8 @@ fn columns(
     min: i32,
     max: i32,
 ) -> bool
-    requires { ⌜ Inner.ColumnsPass (plan .columns) (plan .w) (plan .h) min max (now t) × Inner.Lends (now rev) (now u) × Inner.RowsFrom r (plan .w) (plan .h) (now t) ⌝ }
+    requires { ⌜ Inner.ColumnsPass (plan .columns) (plan .w) (plan .h) min max (now t) × Inner.Lends (now rev) (now u)
+        × Inner.RowsFrom r (plan .w) (plan .h) (now t) ⌝ }
     ensures { λ m. ⌜ Inner.ColumnsAre (plan .columns) (natAbs min) (plan .w) (plan .h) (now (t .entry)) (plan .w) (now (t .exit)) m ⌝ }
 {
     let kind = plan.columns;
@@ -440,7 +434,8 @@ fn columns_of_wht(t: &mut [i32])
 // Steps 1 to 5 of WHT_WHT with r live rows, on sixteen zeros. No pass has the mark.
 pub fn resolve_wht(t: &mut [i32], coeff: &[i32], r: usize)
     requires { ⌜ Inner.ResolvesIn 16 (Inner.wht-plan 0) (now coeff) r (now t) ⌝ }
-    ensures { λ _. ⌜ ((shift : ℕ) (depth : Depth) → Inner.ResolvedIn 16 Engine.First (Inner.wht-plan shift) depth (now (coeff .entry)) r (now (t .exit)) Bool.false) ⌝ }
+    ensures { λ _. ⌜ ((shift : ℕ) (depth : Depth)
+        → Inner.ResolvedIn 16 Engine.First (Inner.wht-plan shift) depth (now (coeff .entry)) r (now (t .exit)) Bool.false) ⌝ }
 {
     rows_of_wht(&mut *t, coeff, r);
     columns_of_wht(&mut *t);
@@ -478,7 +473,8 @@ fn columns_by(
     min: i32,
     max: i32,
 ) -> bool
-    requires { ⌜ Inner.ColumnsPass (plan .columns) (plan .w) (plan .h) min max (now t) × Inner.Lends (now rev) (now u) × Inner.RowsFrom r (plan .w) (plan .h) (now t) × T (Blocks.serves engine (plan .columns)) ⌝ }
+    requires { ⌜ Inner.ColumnsPass (plan .columns) (plan .w) (plan .h) min max (now t) × Inner.Lends (now rev) (now u)
+        × Inner.RowsFrom r (plan .w) (plan .h) (now t) × T (Blocks.serves engine (plan .columns)) ⌝ }
     ensures { λ m. ⌜ Inner.ColumnsBy engine (plan .columns) (natAbs min) (plan .w) (plan .h) (now (t .entry)) (plan .w) (now (t .exit)) m ⌝ }
 {
     let Engine::First = engine else {

@@ -1,5 +1,5 @@
 -- The place of a block's answer is a coefficient's number, so its word holds it.
-use mathlib.Core.Path.{_≡_, refl, ap, _∙_, subst⁻¹}
+use mathlib.Core.Path.{_≡_, refl, ap, _∙_}
 use mathlib.Core.Bool.{Bool, true, false, cond}
 use mathlib.Core.List.{List}
 use mathlib.Core.Option.{some}
@@ -9,6 +9,9 @@ use native.Mathlib.Omega.{arith}
 use lib.Dec.{eqb, ltb}
 use lib.IntN.{ℤ}
 use lib.ListN.{length}
+use mir.Syntax.{w32}
+use mir.Val.{SFits, toZ, ofZ}
+use mir.ValLaws.{toZ-ofZ}
 use Rattle.whole.specs.Checks.{Check, accept, refuse, then, unless, unless-at, when, judged}
 use Rattle.whole.proofs.Checks.{open-then, open-unless}
 use Rattle.bitdepth.specs.declared.Depth.{Depth}
@@ -16,16 +19,18 @@ use Rattle.bitdepth.specs.Depths.{depth, maximum}
 use Rattle.levels.specs.declared.Plan.{Plan}
 use Rattle.levels.specs.Plans.{plan}
 use Rattle.levels.proofs.Sizes.{side-bounds, plan-sided}
+use Rattle.strided.specs.declared.View.{View}
 use Rattle.strided.specs.Planes.{bad-view, bad-stride, row-outside, lies}
 use Rattle.strided.proofs.Rows.{rows-in}
 use Rattle.pixels.specs.Above.{first-above}
-use Rattle.itx_1d.specs.Calls.{Answer}
-use Rattle.itx.specs.Calls.{Block, Call, plain, live, bad-eob, bad-rows, out-of-range, stray, table, checked, verdict, spec-verdict, with-adst, short, outcome-of, by-shortcut, by-passes, live-rows, outcome, Outcome, Meets}
+use Rattle.whole.specs.Answers.{Answer}
+use Rattle.itx.specs.Calls.{Block, Call, plain, live, bad-eob, bad-rows, out-of-range, stray, table, checked, verdict, spec-verdict, with-adst}
+use Rattle.itx.specs.Calls.{short, outcome-of, by-shortcut, by-passes, live-rows, outcome, Outcome, Meets}
 use Rattle.itx.specs.Av1.{av1-way}
 use Rattle.itx.specs.Spec.{spec-outcome}
 use Rattle.itx.proofs.Verdicts.{by-plan}
 use Rattle.residual.specs.Blocks.{Way, way}
-use Rattle.sgrifomel.specs.Words.{packed, PacksBlock}
+use Rattle.sgrifomel.specs.Words.{packed, view, PacksBlock}
 use Rattle.sgrifomel.proofs.Places.{first-below, Small, small-unless, small-at}
 
 small-cond : {A : Type 0} (t : Bool) (k l : Check A) → Small k → Small l → Small (cond t k l)
@@ -56,14 +61,12 @@ module _ (call : Call) (b : Block) where
   pixel-below : (p : Plan) (d : Depth) → bad-view (p .w) (p .h) (b .plane .view) ≡ false → p .w * p .h ≤ 1024
       → (i : ℕ) → first-above (maximum d) (b .plane .pixels) (lies (b .plane)) (p .w) ≡ some i → i < 1024
   pixel-below p d seen l i e =
-      omega (arith, first-below (b .plane .view .rows * p .w) _ i e, mul-le-mul-right {m = b .plane .view .rows} {n = p .h} (p .w) (rows-in (p .w) (p .h) (b .plane .view) seen .1))
+      let v = b .plane .view in
+      omega (arith, first-below (v .rows * p .w) _ i e, mul-le-mul-right {m = v .rows} {n = p .h} (p .w) (rows-in (p .w) (p .h) v seen .1))
 
   small-table : (p : Plan) (d : Depth) → p .w * p .h ≤ 1024 → Small (judged (table call b) (p, d))
   small-table p d l =
-      let n = p .w * p .h in
-      let c = b .coefs in
-      let v = b .plane .view in
-      small-when (bad-eob call) 4 _ (λ _.
+      let n = p .w * p .h in let c = b .coefs in let v = b .plane .view in small-when (bad-eob call) 4 _ (λ _.
       small-when (bad-rows call (p .h)) 5 _ (λ _.
       small-when (ltb (length c) n) 6 _ (λ _.
       small-when (bad-view (p .w) (p .h) v) 20 _ (λ seen.
@@ -83,22 +86,21 @@ module _ (call : Call) (b : Block) where
 
   area : (p : Plan) → plan (b .w) (b .h) (b .type) ≡ accept p → p .w * p .h ≤ 1024
   area p e =
-      let s = plan-sided (b .w) (b .h) (b .type) p e in
-      mul-le-mul (side-bounds (p .w) (s .0) .1) (side-bounds (p .h) (s .1) .1)
+      let s = plan-sided (b .w) (b .h) (b .type) p e in mul-le-mul (side-bounds (p .w) (s .0) .1) (side-bounds (p .h) (s .1) .1)
 
   small-verdict : Small (verdict call b)
   small-verdict = small-checked (plan (b .w) (b .h) (b .type)) (small-plan (b .w) (b .h) (b .type)) area
 
   small-spec-verdict : Small (spec-verdict call b)
   small-spec-verdict =
-      let k = plan (b .w) (b .h) (b .type) in
-      small-checked (then k (λ p. unless (with-adst p) 2 (accept p)))
+      let k = plan (b .w) (b .h) (b .type) in small-checked (then k (λ p. unless (with-adst p) 2 (accept p)))
       (small-then k _ (small-plan (b .w) (b .h) (b .type)) (λ p e. small-unless (with-adst p) 2 (accept p) tt))
       (λ p e. let f = open-then k _ p e in let g = open-unless (with-adst (f .0)) 2 (accept (f .0)) p (f .2) in area p (f .1 ∙ g .1))
 
   -- an acceptance has place 0
   module _ (engine : Plan → Depth → Way) where
-    small-done : (p : Plan) (d : Depth) (t : Bool) → cond t (by-shortcut b p d) (by-passes b p d (engine p d) (live-rows call p)) .answer .place < 1024
+    small-done : (p : Plan) (d : Depth) (t : Bool)
+        → cond t (by-shortcut b p d) (by-passes b p d (engine p d) (live-rows call p)) .answer .place < 1024
     small-done p d true = omega arith
     small-done p d false = omega arith
 
@@ -114,14 +116,28 @@ module _ (call : Call) (b : Block) where
   unfolding spec-outcome
   small-spec-block = small-outcome av1-way (spec-verdict call b) small-spec-verdict
 
--- so an answer that meets an outcome can be packed, and the word is the outcome's
-pub packable : {o : Outcome} {a : Answer} {ps : List ℕ} {c : List ℤ} → o .answer .place < 1024 → Meets o a ps c → a .place < 1024
-packable l m = subst⁻¹ (λ (a : Answer). a .place < 1024) (m .answer-is) l
-
-pub packs : {o asked : Outcome} {a : Answer} {ps : List ℕ} {c : List ℤ} {w : ℕ} → asked ≡ o → Meets asked a ps c → w ≡ packed a → PacksBlock o w ps c
+-- the word of an answer that meets an outcome is the outcome's
+packs : {o asked : Outcome} {a : Answer} {ps : List ℕ} {c : List ℤ} {w : ℕ} → asked ≡ o → Meets asked a ps c → w ≡ packed a → PacksBlock o w ps c
 packs p m e =
     record {
       answer = e ∙ ap packed (m .answer-is ∙ ap (λ (o : Outcome). o .answer) p);
       pixels = m .pixels-are ∙ ap (λ (o : Outcome). o .pixels) p;
       coefs = m .coefs-are ∙ ap (λ (o : Outcome). o .coefs) p;
     }
+
+-- a call reads stride and eob as they were given
+seen : {offset columns rows : ℕ} {stride : ℤ} {v : View}
+    → SFits w32 stride → v ≡ view offset (toZ w32 (ofZ w32 stride)) columns rows → v ≡ view offset stride columns rows
+seen {offset} {columns} {rows} {stride} s e = e ∙ (λ i. view offset (toZ-ofZ w32 stride s i) columns rows)
+
+-- of pixels qs and coefficients d
+module _ (given : View → List ℕ → List ℤ → Block) (qs : List ℕ) (d : List ℤ)
+    {a : Answer} {ps : List ℕ} {c : List ℤ} {w offset columns rows : ℕ} {stride : ℤ} {v : View} where
+  pub packs-live : (f : Block → Outcome) → SFits w32 stride → v ≡ view offset (toZ w32 (ofZ w32 stride)) columns rows
+      → Meets (f (given v qs d)) a ps c → w ≡ packed a → PacksBlock (f (given (view offset stride columns rows) qs d)) w ps c
+  packs-live f s e m = packs (λ i. f (given (seen s e i) qs d)) m
+
+  pub packs-plain : (f : Call → Block → Outcome) {eob : ℤ} → SFits w32 eob → SFits w32 stride
+      → v ≡ view offset (toZ w32 (ofZ w32 stride)) columns rows → Meets (f (plain (toZ w32 (ofZ w32 eob))) (given v qs d)) a ps c → w ≡ packed a
+      → PacksBlock (f (plain eob) (given (view offset stride columns rows) qs d)) w ps c
+  packs-plain f {eob} h s e m = packs (λ i. f (plain (toZ-ofZ w32 eob h i)) (given (seen s e i) qs d)) m

@@ -12,12 +12,13 @@ use lib.ListN.{length}
 use Rattle.whole.specs.Numbers.{outside, low, high}
 use Rattle.whole.specs.Lists.{at, first, one-more}
 use Rattle.whole.specs.Checks.{Check, accept, refuse, unless, unless-at}
-use Rattle.av1.specs.Sides.{Side, of4, of8, of16, of32, len}
-use Rattle.itx_1d.specs.declared.Kind.{Kind}
-use Rattle.itx_1d.specs.declared.Kind.the-variants.{Dct, Wht}
+use Rattle.levels.specs.Sides.{Side, of4, of8, of16, of32, len}
+use Rattle.levels.specs.declared.Kind.{Kind}
+use Rattle.levels.specs.declared.Kind.the-variants.{Dct, Wht}
 use Rattle.itx_1d.specs.declared.Pass.{Pass}
 use Rattle.itx_1d.specs.Passes.{Passed, pass, lower}
-use Rattle.itx_1d.specs.Calls.{Answer, Outcome, answer-of, bad-range, checks, outcome-of, accepted, judged, ranged, halved, unranged, Meets}
+use Rattle.whole.specs.Answers.{Answer, Outcome, outcome-of}
+use Rattle.itx_1d.specs.Calls.{answer-of, bad-range, checks, accepted, judged, ranged, halved, unranged, Meets}
 use Rattle.sgrifomel.specs.Words.{packed, Packs}
 
 -- what is found is one of the n
@@ -45,8 +46,7 @@ small-at none number k b h = h
 
 small-checks : (n looked : ℕ) (c : List ℤ) (s : ℕ) (lo hi : ℤ) → looked ≤ 32 → Small (checks n looked c s lo hi)
 small-checks n looked c s lo hi l =
-    small-unless (eqb s 0) 12 _
-    (small-unless (leb (length c) ((n - 1) * s)) 13 _
+    small-unless (eqb s 0) 12 _ (small-unless (leb (length c) ((n - 1) * s)) 13 _
     (small-at (first looked (λ i. outside (at c (i * s)) lo hi)) 14 (accept tt)
     (λ i e. omega (arith, first-below looked (λ i. outside (at c (i * s)) lo hi) i e))
     tt))
@@ -62,10 +62,10 @@ len-small of8 = omega arith
 len-small of16 = omega arith
 len-small of32 = omega arith
 
-small-judged : (f : List ℤ → Passed) (n : Side) (looked : ℕ) (c : List ℤ) (s : ℕ) (lo hi : ℤ) → looked ≤ len n → judged f n looked c s lo hi .answer .place < 1024
+small-judged : (f : List ℤ → Passed) (n : Side) (looked : ℕ) (c : List ℤ) (s : ℕ) (lo hi : ℤ) → looked ≤ len n
+    → judged f n looked c s lo hi .answer .place < 1024
 small-judged f n looked c s lo hi l =
-    let k = checks (len n) looked c s lo hi in
-    small-outcome c (accepted f n s c) (unless (bad-range lo hi) 11 k) refl
+    let k = checks (len n) looked c s lo hi in small-outcome c (accepted f n s c) (unless (bad-range lo hi) 11 k) refl
     (small-unless (bad-range lo hi) 11 k (small-checks (len n) looked c s lo hi (le-trans l (len-small n))))
 
 pub small-ranged : (kind : Kind) (n : Side) (c : List ℤ) (s : ℕ) (lo hi : ℤ) → ranged kind n c s lo hi .answer .place < 1024
@@ -79,13 +79,12 @@ small-halved n c s lo hi = small-judged (λ xs. pass Dct n (natAbs lo) (lower n 
 pub small-unranged : (c : List ℤ) (s : ℕ) → unranged c s .answer .place < 1024
 unfolding unranged
 small-unranged c s =
-    let lo = low 16777216 in
-    let hi = high 16777216 in
+    let lo = low 16777216 in let hi = high 16777216 in
     small-outcome c (accepted (pass Wht of4 16777216) of4 s c) (checks 4 4 c s lo hi) refl (small-checks 4 4 c s lo hi (omega arith))
 
--- so an answer that meets an outcome with such a place can be packed, and the word is the outcome's
-pub packable : {o : Outcome} {r : Pass} {d : List ℤ} → o .answer .place < 1024 → Meets o r d → answer-of r .place < 1024
-packable h m = subst⁻¹ (λ (a : Answer). a .place < 1024) (m .answer) h
+-- so an answer that is an outcome's can be packed, and the word is the outcome's
+pub packable : {a b : Answer} → a ≡ b → b .place < 1024 → a .place < 1024
+packable e h = subst⁻¹ (λ (a : Answer). a .place < 1024) e h
 
 pub packs : {o : Outcome} {r : Pass} {d : List ℤ} {w : ℕ} → Meets o r d → w ≡ packed (answer-of r) → Packs o w d
 packs m e = record { answer = e ∙ ap packed (m .answer); elements = m .elements }

@@ -16,10 +16,11 @@ use Rattle.sgrifomel.proofs.Places.{first-below, Small, small-unless, s
 use Rattle.sgrifomel.proofs.Blocks.{small-then, small-depth}
 
 -- numbers 6 and 23
-later : (r c : List ℤ) (d : Depth) → Small {A = Unit {0}} (unless (ltb (length r) 16 || ltb (length c) 16) 6 (unless-at (first 16 (λ i. out-of-bounds d (at r i))) 23 (accept tt)))
+later : (r c : List ℤ) (d : Depth)
+    → Small {A = Unit {0}} (unless (ltb (length r) 16 || ltb (length c) 16) 6 (unless-at (first 16 (λ i. out-of-bounds d (at r i))) 23 (accept tt)))
 later r c d =
     let f : ℕ → Bool = λ i. out-of-bounds d (at r i) in
-    small-unless (ltb (length r) 16 || ltb (length c) 16) 6 (unless-at (first 16 f) 23 (accept tt)) (small-at (first 16 f) 23 (accept tt) (λ i e. omega (arith, first-below 16 f i e)) tt)
+    small-unless (ltb (length r) 16 || ltb (length c) 16) 6 _ (small-at (first 16 f) 23 (accept tt) (λ i e. omega (arith, first-below 16 f i e)) tt)
 
 pub small-written : (r c : List ℤ) (n : ℕ) → written r c n .answer .place < 1024
 unfolding written

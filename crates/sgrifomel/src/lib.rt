@@ -2,15 +2,13 @@
 ghost use mathlib.Core.Path.{_≡_};
 ghost use mathlib.Core.Bool.{cond};
 ghost use Prim.Native.Nat.{_*_, _≤_, _<_};
-ghost use Rattle.av1.specs.Sides.{of4, of8, of16, of32};
+ghost use Rattle.levels.specs.Sides.{of4, of8, of16, of32};
 ghost use Rattle.itx_1d.specs.Calls as Calls;
-ghost use Rattle.itx_1d.specs.declared.Kind.the-variants.{Dct, Identity, Adst, FlipAdst};
-ghost use Rattle.strided.specs.Planes.{lent, lent-8};
+ghost use Rattle.levels.specs.declared.Kind.the-variants.{Dct, Identity, Adst, FlipAdst};
 ghost use Rattle.itx.specs.Calls as Blocks;
 ghost use Rattle.itx.specs.Spec.{spec-outcome};
 ghost use Rattle.itx.specs.Answers as Answers;
-ghost use Rattle.itx.specs.Answers.{block};
-ghost use Rattle.sgrifomel.specs.Words.{packed, view, Packs, PacksBlock};
+ghost use Rattle.sgrifomel.specs.Words.{packed, view, wide, narrow, Packs, Leaves};
 ghost use Rattle.lossless.specs.Writes as Writes;
 use itx::Answer;
 use itx_1d::Pass;
@@ -198,6 +196,18 @@ fn pack_answer(answer: Answer) -> u64
     itx::number(answer) as u64 + mark + 65536 * (itx::place(answer) as u64)
 }
 
+// Where a block lies, by C's numbers.
+fn view_of(offset: u32, stride: i32, columns: usize, rows: usize) -> View
+    ensures { λ r. ⌜ r ≡ view offset stride columns rows ⌝ }
+{
+    View {
+        offset,
+        stride: ByteStride(stride),
+        columns,
+        rows,
+    }
+}
+
 #[no_mangle]
 pub extern "C" fn sgrifomel_inv_txfm_add(
     dst: &mut [u16],
@@ -212,14 +222,10 @@ pub extern "C" fn sgrifomel_inv_txfm_add(
     txtp: usize,
     depth: usize,
 ) -> u64
-    ensures { λ r. ⌜ PacksBlock (Blocks.outcome (Blocks.plain eob) (block w h txtp depth (now (coeff .entry)) (lent (now (dst .entry)) (view offset stride columns rows)))) r (now (dst .exit)) (now (coeff .exit)) ⌝ }
+    ensures { λ r. ⌜ Leaves (Blocks.outcome (Blocks.plain eob)) (wide w h txtp depth (view offset stride columns rows)) r
+        (now (dst .entry)) (now (coeff .entry)) (now (dst .exit)) (now (coeff .exit)) ⌝ }
 {
-    let view = View {
-        offset,
-        stride: ByteStride(stride),
-        columns,
-        rows,
-    };
+    let view = view_of(offset, stride, columns, rows);
     pack_answer(itx::inv_txfm_add(dst, view, coeff, eob, w, h, txtp, depth))
 }
 
@@ -237,14 +243,10 @@ pub extern "C" fn sgrifomel_inv_txfm_add_live(
     txtp: usize,
     depth: usize,
 ) -> u64
-    ensures { λ a. ⌜ PacksBlock (Blocks.outcome (Blocks.live r) (block w h txtp depth (now (coeff .entry)) (lent (now (dst .entry)) (view offset stride columns rows)))) a (now (dst .exit)) (now (coeff .exit)) ⌝ }
+    ensures { λ a. ⌜ Leaves (Blocks.outcome (Blocks.live r)) (wide w h txtp depth (view offset stride columns rows)) a
+        (now (dst .entry)) (now (coeff .entry)) (now (dst .exit)) (now (coeff .exit)) ⌝ }
 {
-    let view = View {
-        offset,
-        stride: ByteStride(stride),
-        columns,
-        rows,
-    };
+    let view = view_of(offset, stride, columns, rows);
     pack_answer(itx::inv_txfm_add_live(dst, view, coeff, r, w, h, txtp, depth))
 }
 
@@ -261,14 +263,10 @@ pub extern "C" fn sgrifomel_inv_txfm_add_8bpc(
     h: usize,
     txtp: usize,
 ) -> u64
-    ensures { λ r. ⌜ PacksBlock (Blocks.outcome (Blocks.plain eob) (block w h txtp 8 (now (coeff .entry)) (lent-8 (now (dst .entry)) (view offset stride columns rows)))) r (now (dst .exit)) (now (coeff .exit)) ⌝ }
+    ensures { λ r. ⌜ Leaves (Blocks.outcome (Blocks.plain eob)) (narrow w h txtp (view offset stride columns rows)) r
+        (now (dst .entry)) (now (coeff .entry)) (now (dst .exit)) (now (coeff .exit)) ⌝ }
 {
-    let view = View {
-        offset,
-        stride: ByteStride(stride),
-        columns,
-        rows,
-    };
+    let view = view_of(offset, stride, columns, rows);
     pack_answer(itx::inv_txfm_add_8bpc(dst, view, coeff, eob, w, h, txtp))
 }
 
@@ -285,14 +283,10 @@ pub extern "C" fn sgrifomel_inv_txfm_add_live_8bpc(
     h: usize,
     txtp: usize,
 ) -> u64
-    ensures { λ a. ⌜ PacksBlock (Blocks.outcome (Blocks.live r) (block w h txtp 8 (now (coeff .entry)) (lent-8 (now (dst .entry)) (view offset stride columns rows)))) a (now (dst .exit)) (now (coeff .exit)) ⌝ }
+    ensures { λ a. ⌜ Leaves (Blocks.outcome (Blocks.live r)) (narrow w h txtp (view offset stride columns rows)) a
+        (now (dst .entry)) (now (coeff .entry)) (now (dst .exit)) (now (coeff .exit)) ⌝ }
 {
-    let view = View {
-        offset,
-        stride: ByteStride(stride),
-        columns,
-        rows,
-    };
+    let view = view_of(offset, stride, columns, rows);
     pack_answer(itx::inv_txfm_add_live_8bpc(dst, view, coeff, r, w, h, txtp))
 }
 
@@ -310,14 +304,10 @@ pub extern "C" fn sgrifomel_spec_inv_txfm_add(
     txtp: usize,
     depth: usize,
 ) -> u64
-    ensures { λ r. ⌜ PacksBlock (spec-outcome (Blocks.plain eob) (block w h txtp depth (now (coeff .entry)) (lent (now (dst .entry)) (view offset stride columns rows)))) r (now (dst .exit)) (now (coeff .exit)) ⌝ }
+    ensures { λ r. ⌜ Leaves (spec-outcome (Blocks.plain eob)) (wide w h txtp depth (view offset stride columns rows)) r
+        (now (dst .entry)) (now (coeff .entry)) (now (dst .exit)) (now (coeff .exit)) ⌝ }
 {
-    let view = View {
-        offset,
-        stride: ByteStride(stride),
-        columns,
-        rows,
-    };
+    let view = view_of(offset, stride, columns, rows);
     pack_answer(itx::spec_inv_txfm_add(dst, view, coeff, eob, w, h, txtp, depth))
 }
 
@@ -335,14 +325,10 @@ pub extern "C" fn sgrifomel_spec_inv_txfm_add_live(
     txtp: usize,
     depth: usize,
 ) -> u64
-    ensures { λ a. ⌜ PacksBlock (spec-outcome (Blocks.live r) (block w h txtp depth (now (coeff .entry)) (lent (now (dst .entry)) (view offset stride columns rows)))) a (now (dst .exit)) (now (coeff .exit)) ⌝ }
+    ensures { λ a. ⌜ Leaves (spec-outcome (Blocks.live r)) (wide w h txtp depth (view offset stride columns rows)) a
+        (now (dst .entry)) (now (coeff .entry)) (now (dst .exit)) (now (coeff .exit)) ⌝ }
 {
-    let view = View {
-        offset,
-        stride: ByteStride(stride),
-        columns,
-        rows,
-    };
+    let view = view_of(offset, stride, columns, rows);
     pack_answer(itx::spec_inv_txfm_add_live(dst, view, coeff, r, w, h, txtp, depth))
 }
 

@@ -12,7 +12,7 @@ use lib.Seq.{drop-cons, getD-drop}
 use Rattle.whole.specs.Lists.{at, tab}
 use Rattle.whole.specs.Both.{Both, none, one}
 use Rattle.whole.proofs.Counts.{tab-at, tab-length}
-use Rattle.av1.specs.Sides.{Side, of4, of8, of16, of32, bits}
+use Rattle.levels.specs.Sides.{Side, of4, of8, of16, of32, bits}
 use Rattle.av1.specs.Network.{brev}
 use Rattle.spec_engine.specs.Lines.{Small}
 use Rattle.spec_engine.specs.Arrays.{points, Points, begun, Begins}
@@ -35,7 +35,8 @@ module _ (f : ℕ → ℤ) (t : List ℤ) where
   pub begun-more : (i : ℕ) → i < length t → set (begun i f t) i (f i) ≡ begun (i + 1) f t
   begun-more i h =
       let e : suc i ≡ i + 1 = omega arith in
-      ap (λ (ys : List ℤ). set (tab i f ++ ys) i (f i)) (drop-cons t i (pos 0) h) ∙ set-next i f (at t i) (drop (suc i) t) ∙ (λ j. tab (e j) f ++ drop (e j) t)
+      ap (λ (ys : List ℤ). set (tab i f ++ ys) i (f i)) (drop-cons t i (pos 0) h) ∙ set-next i f (at t i) (drop (suc i) t)
+      ∙ (λ j. tab (e j) f ++ drop (e j) t)
 
   -- the number that is next still waits
   pub begun-waits : (i : ℕ) → at (begun i f t) i ≡ at t i

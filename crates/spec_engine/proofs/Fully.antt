@@ -11,21 +11,21 @@ use Rattle.whole.specs.Numbers.{_>>_, round2}
 use Rattle.whole.specs.Lists.{at, tab}
 use Rattle.whole.specs.Both.{Both}
 use Rattle.whole.proofs.Counts.{tab-ext, tab-length, map-at}
-use Rattle.av1.specs.Sides.{Side, of4, of8, of16, of32, bits, len, side}
-use Rattle.av1.specs.Network.{Alg, table, steps, run, brev, dct}
+use Rattle.levels.specs.Sides.{Side, of4, of8, of16, of32, bits, len, side}
+use Rattle.av1.specs.Network.{Alg, steps, run, brev, dct}
 use Rattle.av1.specs.Values.{exact}
 use Rattle.av1.specs.Passes.{av1-identity, av1-wht}
-use Rattle.itx_1d.specs.declared.Kind.{Kind}
-use Rattle.itx_1d.specs.declared.Kind.the-variants.{Dct, Identity, Wht, Adst, FlipAdst}
+use Rattle.levels.specs.declared.Kind.{Kind}
+use Rattle.levels.specs.declared.Kind.the-variants.{Dct, Identity, Wht, Adst, FlipAdst}
 use Rattle.itx_1d.specs.Calls.{taken, put}
 use Rattle.itx_1d.specs.Inner.{most, Lined}
 use Rattle.itx_1d.specs.Passes.{wht, pass, av1-pass}
 use Rattle.itx_1d.proofs.PassLaws.{run-length, len-power, wht-av1}
 use Rattle.itx_1d.proofs.Strides.{at-most-32}
 use Rattle.spec_engine.specs.Arrays.{points, Points, begun, Held, Begins, specified, Ready, Transforms}
-use Rattle.spec_engine.specs.Lines.{Small, Ahead, run-lines}
+use Rattle.spec_engine.specs.Lines.{Small, Able}
 use Rattle.spec_engine.proofs.Fronts.{both-of, begun-all, begun-long, begun-at, power, points-small}
-use Rattle.spec_engine.proofs.Grows.{begin, in-steps}
+use Rattle.spec_engine.proofs.Grows.{begin}
 
 -- ---- the DCT
 
@@ -37,14 +37,16 @@ module _ (n : ℕ) (t : List ℤ) (is : Points n) (held : Held 524288 t) where
   turned-small : (i : ℕ) → natAbs (at (begun (2 ^ n) turned t) i) ≤ 524288
   turned-small i = begun-all (λ (z : ℤ). natAbs z ≤ 524288) (2 ^ n) turned t (λ j. held .small (brev n j)) (held .small) i
 
-  pub fits : Ahead (table n) (begun (2 ^ n) turned t)
+  pub fits : Able (steps n) (begun (2 ^ n) turned t)
   fits =
-      let long : length (begun (2 ^ n) turned t) ≡ 32 = begun-long turned t (2 ^ n) (omega (arith, power n (points-small n is), held .long)) ∙ held .long in
-      subst (λ (k : ℕ). Ahead (table k) (begun (2 ^ n) turned t)) is
-      (begin (points n) (subst (λ (k : ℕ). Both Small (begun (2 ^ n) turned t) (replicate k 524288)) long (both-of 524288 (begun (2 ^ n) turned t) turned-small)))
+      let long : length (begun (2 ^ n) turned t) ≡ 32 =
+      begun-long turned t (2 ^ n) (omega (arith, power n (points-small n is), held .long)) ∙ held .long in
+      subst (λ (k : ℕ). Able (steps k) (begun (2 ^ n) turned t)) is (begin (points n)
+      (subst (λ (k : ℕ). Both Small (begun (2 ^ n) turned t) (replicate k 524288)) long (both-of 524288 (begun (2 ^ n) turned t) turned-small)))
 
 -- what the lines leave after the first 2 ^ n numbers they do not touch
-beyond : {A : Type 0} (𝓐 : Alg A) (k : Side) (f : ℕ → A) (rest : List A) → run 𝓐 (steps (bits k)) (tab (2 ^ bits k) f ++ rest) ≡ run 𝓐 (steps (bits k)) (tab (2 ^ bits k) f) ++ rest
+beyond : {A : Type 0} (𝓐 : Alg A) (k : Side) (f : ℕ → A) (rest : List A)
+    → run 𝓐 (steps (bits k)) (tab (2 ^ bits k) f ++ rest) ≡ run 𝓐 (steps (bits k)) (tab (2 ^ bits k) f) ++ rest
 beyond 𝓐 of4 f rest = refl
 beyond 𝓐 of8 f rest = refl
 beyond 𝓐 of16 f rest = refl
@@ -54,18 +56,17 @@ module _ (k : Side) (t : List ℤ) where
   abbrev from : ℕ → ℤ
   from i = at t (brev (bits k) i)
 
-  begins-of : Begins (2 ^ bits k) (dct exact (bits k) t) (run-lines (table (bits k)) (begun (2 ^ bits k) from t))
+  begins-of : Begins (2 ^ bits k) (dct exact (bits k) t) (run exact (steps (bits k)) (begun (2 ^ bits k) from t))
   begins-of =
-      let n = 2 ^ bits k in
-      let front = run exact (steps (bits k)) (tab n from) in
-      record {
+      let n = 2 ^ bits k in let front = run exact (steps (bits k)) (tab n from) in record {
         same = λ i l.
-            ap (λ (u : List ℤ). at u i) (in-steps (table (bits k)) (begun n from t) ∙ beyond exact k from (drop n t))
+            ap (λ (u : List ℤ). at u i) (beyond exact k from (drop n t))
             ∙ List·getD-append front (drop n t) (pos 0) i (omega (arith, l, run-length exact (steps (bits k)) (tab n from), tab-length n from));
       }
 
-pub begins : (n : ℕ) (t : List ℤ) → Points n → Begins (2 ^ n) (dct exact n t) (run-lines (table n) (begun (2 ^ n) (λ i. at t (brev n i)) t))
-begins n t is = subst (λ (j : ℕ). Begins (2 ^ j) (dct exact j t) (run-lines (table j) (begun (2 ^ j) (λ i. at t (brev j i)) t))) is (begins-of (points n) t)
+pub begins : (n : ℕ) (t : List ℤ) → Points n → Begins (2 ^ n) (dct exact n t) (run exact (steps n) (begun (2 ^ n) (λ i. at t (brev n i)) t))
+begins n t is =
+    subst (λ (j : ℕ). Begins (2 ^ j) (dct exact j t) (run exact (steps j) (begun (2 ^ j) (λ i. at t (brev j i)) t))) is (begins-of (points n) t)
 
 -- ---- T is loaded with a line, and has zeros after it
 
@@ -117,7 +118,8 @@ pub wht-passes : (n : ℕ) (k : Side) (t : List ℤ) {u : List ℤ} → 2 ^ n �
 wht-passes n k t {u} e b = subst⁻¹ (λ (j : ℕ). Begins j (av1-wht t) u) e b
 
 pub identity-passes : (m : ℕ) (k : Side) (t : List ℤ) {u : List ℤ} → u ≡ begun m (λ i. av1-identity k (at t i)) t → Begins m (av1-pass Identity k t) u
-identity-passes m k t e = record { same = λ i l. ap (λ (v : List ℤ). at v i) e ∙ begun-at (λ j. av1-identity k (at t j)) t m i l ∙ sym (identity-at k t i) }
+identity-passes m k t e =
+    record { same = λ i l. ap (λ (v : List ℤ). at v i) e ∙ begun-at (λ j. av1-identity k (at t j)) t m i l ∙ sym (identity-at k t i) }
 
 -- a pass on T is that on the line
 module _ (k : Side) (f : ℕ → ℤ) where
@@ -129,9 +131,12 @@ module _ (k : Side) (f : ℕ → ℤ) where
 
   pub on-line : (kind : Kind) → T (specified kind) → (i : ℕ) → at (av1-pass kind k T₁) i ≡ at (av1-pass kind k line) i
   unfolding Rattle.itx_1d.specs.Passes.pass
-  on-line Dct h i = ap (λ (xs : List ℤ). at (run exact (steps (bits k)) xs) i) (tab-ext (2 ^ bits k) _ _ (λ j g. loaded-at (len k) f (brev (bits k) j)))
+  on-line Dct h i =
+      ap (λ (xs : List ℤ). at (run exact (steps (bits k)) xs) i) (tab-ext (2 ^ bits k) _ _ (λ j g. loaded-at (len k) f (brev (bits k) j)))
   on-line Identity h i = identity-at k T₁ i ∙ ap (av1-identity k) (loaded-at (len k) f i) ∙ sym (identity-at k line i)
-  on-line Wht h i = let z = loaded-at (len k) f in ap (λ (xs : List ℤ). at xs i) (sym (wht-av1 k 0 T₁) ∙ (λ j. wht (z 0 j) (z 1 j) (z 2 j) (z 3 j)) ∙ wht-av1 k 0 line)
+  on-line Wht h i =
+      let z = loaded-at (len k) f in
+      ap (λ (xs : List ℤ). at xs i) (sym (wht-av1 k 0 T₁) ∙ (λ j. wht (z 0 j) (z 1 j) (z 2 j) (z 3 j)) ∙ wht-av1 k 0 line)
   on-line Adst h i = absurd h
   on-line FlipAdst h i = absurd h
 
@@ -139,7 +144,8 @@ module _ (k : Side) (f : ℕ → ℤ) where
 pub put-same : (c : List ℤ) (s : ℕ) (vs ws : List ℤ) (n : ℕ) → Begins n ws vs → put c s vs n ≡ put c s ws n
 unfolding put
 put-same c s vs ws zero b = refl
-put-same c s vs ws (suc n) b = λ i. set (put-same c s vs ws n (record { same = λ j l. b .same j (omega arith) }) i) (n * s) (b .same n (omega arith) i)
+put-same c s vs ws (suc n) b =
+    λ i. set (put-same c s vs ws n (record { same = λ j l. b .same j (omega arith) }) i) (n * s) (b .same n (omega arith) i)
 
 -- ---- a pass as a whole
 
@@ -149,20 +155,28 @@ points-bits of8 = refl
 points-bits of16 = refl
 points-bits of32 = refl
 
-whole-of : (kind : Kind) (k : Side) (c : List ℤ) (s : ℕ) (t u : List ℤ) → T (specified kind) → t ≡ loaded (len k) (λ i. at c (i * s)) → Begins (2 ^ bits k) (av1-pass kind (points (bits k)) t) u
+whole-of : (kind : Kind) (k : Side) (c : List ℤ) (s : ℕ) (t u : List ℤ) → T (specified kind) → t ≡ loaded (len k) (λ i. at c (i * s))
+    → Begins (2 ^ bits k) (av1-pass kind (points (bits k)) t) u
     → put c s u (len k) ≡ put c s (av1-pass kind k (taken c s (len k))) (len k)
 whole-of kind k c s t u h e b =
     put-same c s u _ (len k)
-    (record { same = λ i l. b .same i (subst (λ (n : ℕ). i < n) (sym (len-power k)) l) ∙ (λ j. at (av1-pass kind (points-bits k j) (e j)) i) ∙ on-line k (λ i. at c (i * s)) kind h i })
+    (record {
+      same = λ i l.
+          b .same i (subst (λ (n : ℕ). i < n) (sym (len-power k)) l) ∙ (λ j. at (av1-pass kind (points-bits k j) (e j)) i)
+          ∙ on-line k (λ i. at c (i * s)) kind h i;
+    })
 
-pub whole : (kind : Kind) (n : ℕ) (c : List ℤ) (s : ℕ) (t u : List ℤ) (b : ℕ) → len (side n) ≡ n → b ≡ bits (side n) → T (specified kind) → t ≡ loaded n (λ i. at c (i * s)) → Begins (2 ^ b) (av1-pass kind (points b) t) u
+pub whole : (kind : Kind) (n : ℕ) (c : List ℤ) (s : ℕ) (t u : List ℤ) (b : ℕ) → len (side n) ≡ n → b ≡ bits (side n) → T (specified kind)
+    → t ≡ loaded n (λ i. at c (i * s)) → Begins (2 ^ b) (av1-pass kind (points b) t) u
     → put c s u n ≡ put c s (av1-pass kind (side n) (taken c s n)) n
 whole kind n c s t u b is f h e g =
     subst (λ (j : ℕ). put c s u j ≡ put c s (av1-pass kind (side n) (taken c s j)) j) is
-    (whole-of kind (side n) c s t u h (e ∙ ap (λ (j : ℕ). loaded j (λ i. at c (i * s))) (sym is)) (subst (λ (j : ℕ). Begins (2 ^ j) (av1-pass kind (points j) t) u) f g))
+    (whole-of kind (side n) c s t u h (e ∙ ap (λ (j : ℕ). loaded j (λ i. at c (i * s))) (sym is))
+    (subst (λ (j : ℕ). Begins (2 ^ j) (av1-pass kind (points j) t) u) f g))
 
 -- what the transform asks
-pub ready : (kind : Kind) (n : ℕ) (c : List ℤ) (s b : ℕ) (t : List ℤ) → Transforms kind c n s → b ≡ bits (side n) → t ≡ loaded n (λ i. at c (i * s)) → Ready kind b t
+pub ready : (kind : Kind) (n : ℕ) (c : List ℤ) (s b : ℕ) (t : List ℤ) → Transforms kind c n s → b ≡ bits (side n) → t ≡ loaded n (λ i. at c (i * s))
+    → Ready kind b t
 ready kind n c s b t a f e = record {
   kind-in = a .kind-in;
   points-in = subst⁻¹ Points f (ap bits (points-bits (side n)));

@@ -8,12 +8,12 @@ use native.Mathlib.Omega.{arith}
 use lib.Dec.{T, lit≤}
 use lib.IntN.{ℤ, pos, natAbs}
 use Rattle.whole.specs.Lists.{at, tab}
-use Rattle.av1.specs.Sides.{Side, of4, of8, of16, of32, bits}
+use Rattle.levels.specs.Sides.{Side, of4, of8, of16, of32, bits}
 use Rattle.av1.specs.Network.{run, steps, brev}
 use Rattle.av1.proofs.Related.{both-tab, run-related}
 use Rattle.av1.proofs.Related as Related
-use Rattle.itx_1d.specs.declared.Kind.{Kind}
-use Rattle.itx_1d.specs.declared.Kind.the-variants.{Dct, Identity, Wht, Adst, FlipAdst}
+use Rattle.levels.specs.declared.Kind.{Kind}
+use Rattle.levels.specs.declared.Kind.the-variants.{Dct, Identity, Wht, Adst, FlipAdst}
 use Rattle.itx_1d.specs.Passes.{pass, av1-pass}
 use Rattle.itx_1d.proofs.PassLaws.{pass-av1, pass-small}
 use Rattle.spec_engine.specs.Growth.{growth, all-below}
@@ -45,25 +45,27 @@ module _ (n : Side) (xs : List ℤ) where
       le-trans (Related.at Small (pos 0) 0 (omega arith) both i) (small-at (grown n k) m t i)
 
   -- no clip: a pass that is no DCT is document 01's
-  other-small : (kind : Kind) (k : ℕ) → pass kind n 0 xs .mark ≡ false → ((i : ℕ) → natAbs (at xs i) ≤ k) → (i : ℕ) → natAbs (at (av1-pass kind n xs) i) ≤ 5 * k + 2
+  other-small : (kind : Kind) (k : ℕ) → pass kind n 0 xs .mark ≡ false → ((i : ℕ) → natAbs (at xs i) ≤ k) → (i : ℕ)
+      → natAbs (at (av1-pass kind n xs) i) ≤ 5 * k + 2
   other-small kind k e h i = subst (λ (l : List ℤ). natAbs (at l i) ≤ 5 * k + 2) (pass-av1 n 0 xs kind e) (pass-small n 0 xs kind k (omega arith) h i)
 
-  -- of numbers up to 524288, which a row takes, and up to 131072, which a column takes
-  pub row-small : (kind : Kind) → T (specified kind) → ((i : ℕ) → natAbs (at xs i) ≤ 524288) → (i : ℕ) → natAbs (at (av1-pass kind n xs) i) ≤ 20919545
+  pass-is-small : (k m : ℕ) → T (all-below m (grown n k)) → 5 * k + 2 ≤ m → (kind : Kind) → T (specified kind) → ((i : ℕ) → natAbs (at xs i) ≤ k)
+      → (i : ℕ) → natAbs (at (av1-pass kind n xs) i) ≤ m
   unfolding Rattle.itx_1d.specs.Passes.pass
-  row-small Dct t h i = dct-small 524288 20919545 (row-bound n) h i
-  row-small Identity t h i = le-trans (other-small Identity 524288 refl h i) (lit≤ tt)
-  row-small Wht t h i = le-trans (other-small Wht 524288 refl h i) (lit≤ tt)
-  row-small Adst t h i = absurd t
-  row-small FlipAdst t h i = absurd t
+  pass-is-small k m b l Dct t h i = dct-small k m b h i
+  pass-is-small k m b l Identity t h i = le-trans (other-small Identity k refl h i) l
+  pass-is-small k m b l Wht t h i = le-trans (other-small Wht k refl h i) l
+  pass-is-small k m b l Adst t h i = absurd t
+  pass-is-small k m b l FlipAdst t h i = absurd t
 
-  pub column-small : (kind : Kind) → T (specified kind) → ((i : ℕ) → natAbs (at xs i) ≤ 131072) → (i : ℕ) → natAbs (at (av1-pass kind n xs) i) ≤ 5229919
-  unfolding Rattle.itx_1d.specs.Passes.pass
-  column-small Dct t h i = dct-small 131072 5229919 (column-bound n) h i
-  column-small Identity t h i = le-trans (other-small Identity 131072 refl h i) (lit≤ tt)
-  column-small Wht t h i = le-trans (other-small Wht 131072 refl h i) (lit≤ tt)
-  column-small Adst t h i = absurd t
-  column-small FlipAdst t h i = absurd t
+  -- of numbers up to 524288, which a row takes, and up to 131072, which a column takes
+  pub row-small : (kind : Kind) → T (specified kind) → ((i : ℕ) → natAbs (at xs i) ≤ 524288) → (i : ℕ)
+      → natAbs (at (av1-pass kind n xs) i) ≤ 20919545
+  row-small = pass-is-small 524288 20919545 (row-bound n) (lit≤ tt)
+
+  pub column-small : (kind : Kind) → T (specified kind) → ((i : ℕ) → natAbs (at xs i) ≤ 131072) → (i : ℕ)
+      → natAbs (at (av1-pass kind n xs) i) ≤ 5229919
+  column-small = pass-is-small 131072 5229919 (column-bound n) (lit≤ tt)
 
   pub wht-small : (k : ℕ) → ((i : ℕ) → natAbs (at xs i) ≤ k) → (i : ℕ) → natAbs (at (av1-pass Wht n xs) i) ≤ 5 * k + 2
   unfolding Rattle.itx_1d.specs.Passes.pass

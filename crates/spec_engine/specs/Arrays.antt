@@ -7,9 +7,9 @@ use lib.Dec.{T, eqb}
 use lib.IntN.{ℤ, natAbs}
 use lib.ListN.{length, drop}
 use Rattle.whole.specs.Lists.{at, tab}
-use Rattle.av1.specs.Sides.{Side, of4, of8, of16, of32, bits}
-use Rattle.itx_1d.specs.declared.Kind.{Kind}
-use Rattle.itx_1d.specs.Manners.{is-adst}
+use Rattle.levels.specs.Sides.{Side, of4, of8, of16, of32, bits}
+use Rattle.levels.specs.declared.Kind.{Kind}
+use Rattle.levels.specs.Manners.{is-adst}
 use Rattle.itx_1d.specs.Inner.{most, Lined, Passable}
 
 -- the length 2 ^ n, for the n that the specification's transforms are for up to 32 points

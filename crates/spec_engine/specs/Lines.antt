@@ -1,31 +1,26 @@
--- The table of section 7.13.2.3 as the code runs it, line by line.
+-- The table of section 7.13.2.3 as the code runs it.
 use mathlib.Core.Bool.{Bool, true, cond, _&&_}
-use mathlib.Core.List.{List, [], _∷_}
-use Prim.Native.Nat.{ℕ, _≤_}
+use mathlib.Core.List.{List, [], _∷_, _++_}
+use Prim.Native.Nat.{ℕ, _+_, _-_, _≤_}
 use lib.Dec.{T, eqb, leb}
 use lib.IntN.{ℤ, natAbs}
-use lib.ListN.{getD}
+use lib.ListN.{length, getD, take, drop}
 use Rattle.whole.specs.Both.{Both}
-use Rattle.av1.specs.Network.{Step, turn, mix, run}
-use Rattle.av1.specs.Values.{exact}
-use Rattle.spec_engine.specs.Growth.{growth, fitting}
+use Rattle.av1.specs.Network.{Step, turn, mix}
+use Rattle.spec_engine.specs.Growth.{fitting}
 
--- a row is a, b, angle, flip; or a, b, flip
-abbrev pub rotations : List (List ℕ) → List Step
-rotations [] = []
-rotations (r ∷ rs) = turn (getD r 0 0) (getD r 1 0) (getD r 2 0) (eqb (getD r 3 0) 1) ∷ rotations rs
+abbrev pub step-of : Bool → ℕ → ℕ → ℕ → Bool → Step
+step-of turns a b angle flip = cond turns (turn a b angle flip) (mix a b flip)
 
-abbrev pub butterflies : List (List ℕ) → List Step
-butterflies [] = []
-butterflies (r ∷ rs) = mix (getD r 0 0) (getD r 1 0) (eqb (getD r 2 0) 1) ∷ butterflies rs
+-- a row is a, b, angle, flip
+abbrev pub line : Bool → List (List ℕ) → List Step
+line turns [] = []
+line turns (r ∷ rs) = step-of turns (getD r 0 0) (getD r 1 0) (getD r 2 0) (eqb (getD r 3 0) 1) ∷ line turns rs
 
 -- every angle is at most 128
 abbrev pub angled : List (List ℕ) → Bool
 angled [] = true
 angled (r ∷ rs) = leb (getD r 2 0) 128 && angled rs
-
-abbrev pub when : Bool → List Step → List Step
-when due ss = cond due ss []
 
 abbrev pub Small : ℤ → ℕ → Type 0
 Small z n = natAbs z ≤ n
@@ -36,20 +31,30 @@ pub record Able (ss : List Step) (t : List ℤ) : Type 0 where
   pub inside : Both Small t β
   pub ok : T (fitting ss β)
 
-pub record Rotating (due : Bool) (rs : List (List ℕ)) (t : List ℤ) : Type 0 where
-  pub able : Able (when due (rotations rs)) t
-  pub turns : T (angled rs)
+pub record Runs (turns : Bool) (rs : List (List ℕ)) (t : List ℤ) : Type 0 where
+  pub able : Able (line turns rs) t
+  pub angles : T (angled rs)
 
--- lines, one after the other
-abbrev pub run-lines : List (List Step) → List ℤ → List ℤ
-run-lines [] t = t
-run-lines (l ∷ ls) t = run-lines ls (run exact l t)
+-- ---- the lines, whose rows stand one after the other
 
-abbrev pub fitting-lines : List (List Step) → List ℕ → Bool
-fitting-lines [] β = true
-fitting-lines (l ∷ ls) β = fitting l β && fitting-lines ls (run growth l β)
+module _ (rows : List (List ℕ)) where
+  abbrev pub part : ℕ → ℕ → List (List ℕ)
+  part from end = take (end - from) (drop from rows)
 
-pub record Ahead (ls : List (List Step)) (t : List ℤ) : Type 0 where
-  pub β : List ℕ
-  pub inside : Both Small t β
-  pub ok : T (fitting-lines ls β)
+  -- a line is its least n, whether it turns, and its number of rows
+  abbrev pub laid : ℕ → List (List ℕ) → ℕ → List Step
+  laid n [] from = []
+  laid n (l ∷ ls) from =
+      cond (leb (getD l 0 0) n) (line (eqb (getD l 1 0) 1) (part from (from + getD l 2 0))) [] ++ laid n ls (from + getD l 2 0)
+
+  -- the rows are there, and no number is too large
+  abbrev pub sound : ℕ → ℕ → ℕ → Bool
+  sound least from end = leb least 5 && (leb end (length rows) && angled (part from end))
+
+  abbrev pub all-sound : List (List ℕ) → ℕ → Bool
+  all-sound [] from = true
+  all-sound (l ∷ ls) from = sound (getD l 0 0) from (from + getD l 2 0) && all-sound ls (from + getD l 2 0)
+
+pub record Walks (n : ℕ) (ls rows : List (List ℕ)) (t : List ℤ) : Type 0 where
+  pub able : Able (laid rows n ls 0) t
+  pub checked : T (all-sound rows ls 0)

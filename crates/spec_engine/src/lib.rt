@@ -1,4 +1,5 @@
-// Section 7.13.2 of the AV1 specification, the one-dimensional inverse transforms, in the specification's own steps (request E8): a lesson for those who have that text and nothing else.
+// Section 7.13.2 of the AV1 specification, the one-dimensional inverse transforms, in the specification's own steps (request E8): a lesson for those
+// who have that text and nothing else.
 //
 // Read it from top to bottom beside the specification. Each function names the section it writes down, and stands where that section stands:
 //   7.13.2.1       cos128, sin128, brev, B and H
@@ -8,35 +9,36 @@
 //   7.13.2.11-15   the inverse identity transforms
 // What section 7.13.3 does with them, rows first and columns after, is in crates/residual (`resolve`): both engines share it.
 //
-// T is the specification's array T: 32 numbers, of which a transform of 2^n points uses the first 2^n. Where the specification asks that a value of T fits a number of
-// bits, nothing is clipped here: the value stays what it is. 32 bits hold every number of T, whatever the coefficients, and 64 bits every product; that is proved
-// (specs/Growth.antt), as is each function's promise, the `ensures` above its body.
+// T is the specification's array T: 32 numbers, of which a transform of 2^n points uses the first 2^n. Where the specification asks that a value of T
+// fits a number of bits, nothing is clipped here: the value stays what it is. 32 bits hold every number of T, whatever the coefficients, and 64 bits
+// every product; that is proved (specs/Growth.antt), as is each function's promise, the `ensures` above its body.
 //
-// Left out: the ADSTs (7.13.2.4 to 7.13.2.9), and in 7.13.2.3 the lines that are for n equal to 6 alone, 64 points. So the lines are numbered anew here, 1 to 20,
-// in the specification's order.
+// Left out: the ADSTs (7.13.2.4 to 7.13.2.9), and in 7.13.2.3 the lines that are for n equal to 6 alone, 64 points. So the lines are numbered anew
+// here, 1 to 20, in the specification's order.
 ghost use mathlib.Core.Path.{_≡_};
-ghost use Prim.Native.Nat.{ℕ, _+_, _*_, _^_, _≤_, _<_};
-ghost use lib.IntN.{ℤ, pos, natAbs};
-ghost use lib.ListN.{length, replicate};
+ghost use Prim.Native.Nat.{_*_, _/_, _^_, _≤_};
+ghost use lib.IntN.{pos, natAbs};
+ghost use lib.ListN.{getD, length, replicate};
 ghost use Rattle.whole.specs.Numbers as Numbers;
 ghost use Rattle.whole.specs.Lists.{at};
-ghost use Rattle.av1.specs.Sides.{len, bits, side};
+ghost use Rattle.levels.specs.Sides.{bits, side};
 ghost use Rattle.av1.specs.Network as Network;
 ghost use Rattle.av1.specs.Values.{exact};
 ghost use Rattle.av1.specs.Passes as Av1;
 ghost use Rattle.itx_1d.specs.Calls.{taken, put};
 ghost use Rattle.itx_1d.specs.Inner.{Reaches};
 ghost use Rattle.itx_1d.specs.Passes.{av1-pass};
-ghost use Rattle.spec_engine.specs.Growth.{Rotatable, Addable};
+ghost use Rattle.spec_engine.specs.Growth.{Workable};
 ghost use Rattle.spec_engine.specs.Lines as Lines;
 ghost use Rattle.spec_engine.specs.Arrays as Arrays;
-use itx_1d::Kind;
 use itx_1d::scatter;
+use levels::Kind;
 
 // ---- 7.13.2.1: butterfly functions
 
-// COS128[ i ] is Cos128_Lookup[ 2 * i ]: 4096 times the cosine of i/64 of half a turn, rounded. Up to 32 points every angle is even, so half of the table is enough.
-const COS128: [i32; 33] = [
+// COS128[ i ] is Cos128_Lookup[ 2 * i ]: 4096 times the cosine of i/64 of half a turn, rounded. Up to 32 points every angle is even, so half of the
+// table is enough.
+const COS128: [u16; 33] = [
     4096,
     4091,
     4076,
@@ -72,15 +74,23 @@ const COS128: [i32; 33] = [
     0,
 ];
 
+// Cos128_Lookup[ angle ].
+fn lookup(angle: usize) -> i32
+    requires { ⌜ angle ≤ 64 ⌝ }
+    ensures { λ r. ⌜ r ≡ pos (getD Network.cosines (angle / 2) 0) ⌝ }
+{
+    COS128[angle / 2] as i32
+}
+
 // cos128( angle ): Cos128_Lookup[ angle ] up to 64, and -Cos128_Lookup[ 128 - angle ] from there to 128. No line below has a larger angle.
 fn cos128(angle: usize) -> i32
     requires { ⌜ angle ≤ 128 ⌝ }
     ensures { λ r. ⌜ r ≡ Network.cos128 angle ⌝ }
 {
     if angle <= 64 {
-        COS128[angle / 2]
+        lookup(angle)
     } else {
-        -COS128[(128 - angle) / 2]
+        -lookup(128 - angle)
     }
 }
 
@@ -90,9 +100,9 @@ fn sin128(angle: usize) -> i32
     ensures { λ r. ⌜ r ≡ Network.sin128 angle ⌝ }
 {
     if angle <= 64 {
-        COS128[(64 - angle) / 2]
+        lookup(64 - angle)
     } else {
-        COS128[(angle - 64) / 2]
+        lookup(angle - 64)
     }
 }
 
@@ -120,7 +130,7 @@ fn round2_12(x: i64) -> i32
 
 // B( a, b, angle, flip ), the butterfly rotation: T[ a ] and T[ b ] are turned by the angle, and change places if flip is 1.
 fn rotate(t: &mut [i32; 32], a: usize, b: usize, angle: usize, flip: bool)
-    requires { ⌜ Rotatable (now t) a b angle ⌝ }
+    requires { ⌜ Workable (now t) a b × (angle ≤ 128) ⌝ }
     ensures { λ _. ⌜ now (t .exit) ≡ Network.step exact (Network.turn a b angle flip) (now (t .entry)) ⌝ }
 {
     let cos = cos128(angle);
@@ -138,9 +148,10 @@ fn rotate(t: &mut [i32; 32], a: usize, b: usize, angle: usize, flip: bool)
     }
 }
 
-// H( a, b, 0, r ), the Hadamard rotation: the sum to T[ a ], the difference to T[ b ]. The specification asks that both fit r bits; here they need not.
+// H( a, b, 0, r ), the Hadamard rotation: the sum to T[ a ], the difference to T[ b ]. The specification asks that both fit r bits; here they need
+// not.
 fn add(t: &mut [i32; 32], a: usize, b: usize)
-    requires { ⌜ Addable (now t) a b ⌝ }
+    requires { ⌜ Workable (now t) a b ⌝ }
     ensures { λ _. ⌜ now (t .exit) ≡ Network.step exact (Network.H a b) (now (t .entry)) ⌝ }
 {
     let x = t[a];
@@ -153,7 +164,7 @@ fn add(t: &mut [i32; 32], a: usize, b: usize)
 
 // H( a, b, flip ): H( a, b, 1 ) is H( b, a, 0 ).
 fn hadamard(t: &mut [i32; 32], a: usize, b: usize, flip: bool)
-    requires { ⌜ Addable (now t) a b ⌝ }
+    requires { ⌜ Workable (now t) a b ⌝ }
     ensures { λ _. ⌜ now (t .exit) ≡ Network.step exact (Network.mix a b flip) (now (t .entry)) ⌝ }
 {
     if flip {
@@ -180,41 +191,77 @@ fn permute(t: &mut [i32; 32], n: usize)
 
 // ---- 7.13.2.3: inverse DCT process
 
-// A line of the process, where it is due: B( a, b, angle, flip ) for each row a, b, angle, flip.
-fn rotations(t: &mut [i32; 32], due: bool, rows: &[[usize; 4]])
-    requires { ⌜ Lines.Rotating due (now rows) (now t) ⌝ }
-    ensures { λ _. ⌜ now (t .exit) ≡ Network.run exact (Lines.when due (Lines.rotations (now (rows .entry)))) (now (t .entry)) ⌝ }
+// B( a, b, angle, flip ) if it turns, and else H( a, b, flip ), which has no angle.
+fn step(t: &mut [i32; 32], turns: bool, a: usize, b: usize, angle: usize, flip: bool)
+    requires { ⌜ Workable (now t) a b × (angle ≤ 128) ⌝ }
+    ensures { λ _. ⌜ now (t .exit) ≡ Network.step exact (Lines.step-of turns a b angle flip) (now (t .entry)) ⌝ }
 {
-    if !due {
-        return;
+    if turns {
+        rotate(t, a, b, angle, flip);
+    } else {
+        hadamard(t, a, b, flip);
     }
+}
+
+// A line of the process: a step for each row a, b, angle, flip.
+fn line(t: &mut [i32; 32], turns: bool, rows: &[[u8; 4]])
+    requires { ⌜ Lines.Runs turns (now rows) (now t) ⌝ }
+    ensures { λ _. ⌜ now (t .exit) ≡ Network.run exact (Lines.line turns (now (rows .entry))) (now (t .entry)) ⌝ }
+{
     for i in 0..rows.len() {
-        let a = rows[i][0];
-        let b = rows[i][1];
-        let angle = rows[i][2];
+        let a = rows[i][0] as usize;
+        let b = rows[i][1] as usize;
+        let angle = rows[i][2] as usize;
         let flip = rows[i][3];
-        rotate(&mut *t, a, b, angle, flip == 1);
+        step(&mut *t, turns, a, b, angle, flip == 1);
     }
 }
 
-// The same: H( a, b, flip ) for each row a, b, flip.
-fn butterflies(t: &mut [i32; 32], due: bool, rows: &[[usize; 3]])
-    requires { ⌜ Lines.Able (Lines.when due (Lines.butterflies (now rows))) (now t) ⌝ }
-    ensures { λ _. ⌜ now (t .exit) ≡ Network.run exact (Lines.when due (Lines.butterflies (now (rows .entry)))) (now (t .entry)) ⌝ }
+// The lines that are for this n, in order. A line is the least n that it is for, 1 if it is of B and 0 if it is of H, and the number of its rows,
+// which stand after those of the lines before it.
+fn walk(t: &mut [i32; 32], n: usize, lines: &[[u8; 3]], rows: &[[u8; 4]])
+    requires { ⌜ Lines.Walks n (now lines) (now rows) (now t) ⌝ }
+    ensures { λ _. ⌜ now (t .exit) ≡ Network.run exact (Lines.laid (now (rows .entry)) n (now (lines .entry)) 0) (now (t .entry)) ⌝ }
 {
-    if !due {
-        return;
-    }
-    for i in 0..rows.len() {
-        let a = rows[i][0];
-        let b = rows[i][1];
-        let flip = rows[i][2];
-        hadamard(&mut *t, a, b, flip == 1);
+    let mut from = 0usize;
+    for l in 0..lines.len() {
+        let least = lines[l][0] as usize;
+        let turns = lines[l][1];
+        let end = from + lines[l][2] as usize;
+        if least <= n {
+            line(&mut *t, turns == 1, &rows[from..end]);
+        }
+        from = end;
     }
 }
 
-// B( 16 + i, 31 - i, 6 + ( brev( 3, 7 - i ) << 3 ), 0 ) for i = 0..7
-const LINE1: [[usize; 4]; 8] = [
+// Lines 1 to 20: least n, 1 for B and 0 for H, number of rows.
+const LINES: [[u8; 3]; 20] = [
+    [5, 1, 8],
+    [4, 1, 4],
+    [5, 0, 8],
+    [3, 1, 2],
+    [4, 0, 4],
+    [5, 1, 4],
+    [2, 1, 2],
+    [3, 0, 2],
+    [4, 1, 2],
+    [5, 0, 8],
+    [2, 0, 2],
+    [3, 1, 1],
+    [4, 0, 4],
+    [5, 1, 4],
+    [3, 0, 4],
+    [4, 1, 2],
+    [5, 0, 8],
+    [4, 0, 8],
+    [5, 1, 4],
+    [5, 0, 16],
+];
+
+// Their rows: a, b, angle, flip of B, and a, b, 0, flip of H. Bytes, since the table is laid out at each call.
+const STEPS: [[u8; 4]; 97] = [
+    // 1, for n from 5: B( 16 + i, 31 - i, 6 + ( brev( 3, 7 - i ) << 3 ), 0 ) for i = 0..7
     [16, 31, 62, 0],
     [17, 30, 30, 0],
     [18, 29, 46, 0],
@@ -223,163 +270,122 @@ const LINE1: [[usize; 4]; 8] = [
     [21, 26, 22, 0],
     [22, 25, 38, 0],
     [23, 24, 6, 0],
-];
-
-// B( 8 + i, 15 - i, 12 + ( brev( 2, 3 - i ) << 4 ), 0 ) for i = 0..3
-const LINE2: [[usize; 4]; 4] = [
+    // 2, for n from 4: B( 8 + i, 15 - i, 12 + ( brev( 2, 3 - i ) << 4 ), 0 ) for i = 0..3
     [8, 15, 60, 0],
     [9, 14, 28, 0],
     [10, 13, 44, 0],
     [11, 12, 12, 0],
-];
-
-// H( 16 + i * 2, 17 + i * 2, i & 1 ) for i = 0..7
-const LINE3: [[usize; 3]; 8] = [
-    [16, 17, 0],
-    [18, 19, 1],
-    [20, 21, 0],
-    [22, 23, 1],
-    [24, 25, 0],
-    [26, 27, 1],
-    [28, 29, 0],
-    [30, 31, 1],
-];
-
-// B( 4 + i, 7 - i, 56 - 32 * i, 0 ) for i = 0..1
-const LINE4: [[usize; 4]; 2] = [[4, 7, 56, 0], [5, 6, 24, 0]];
-
-// H( 8 + i * 2, 9 + i * 2, i & 1 ) for i = 0..3
-const LINE5: [[usize; 3]; 4] = [[8, 9, 0], [10, 11, 1], [12, 13, 0], [14, 15, 1]];
-
-// B( 30 - 4 * i - j, 17 + 4 * i + j, 24 + ( j << 6 ) + ( ( 1 - i ) << 5 ), 1 ) for i = 0..1, j = 0..1
-const LINE6: [[usize; 4]; 4] = [
+    // 3, for n from 5: H( 16 + i * 2, 17 + i * 2, i & 1 ) for i = 0..7
+    [16, 17, 0, 0],
+    [18, 19, 0, 1],
+    [20, 21, 0, 0],
+    [22, 23, 0, 1],
+    [24, 25, 0, 0],
+    [26, 27, 0, 1],
+    [28, 29, 0, 0],
+    [30, 31, 0, 1],
+    // 4, for n from 3: B( 4 + i, 7 - i, 56 - 32 * i, 0 ) for i = 0..1
+    [4, 7, 56, 0],
+    [5, 6, 24, 0],
+    // 5, for n from 4: H( 8 + i * 2, 9 + i * 2, i & 1 ) for i = 0..3
+    [8, 9, 0, 0],
+    [10, 11, 0, 1],
+    [12, 13, 0, 0],
+    [14, 15, 0, 1],
+    // 6, for n from 5: B( 30 - 4 * i - j, 17 + 4 * i + j, 24 + ( j << 6 ) + ( ( 1 - i ) << 5 ), 1 ) for i = 0..1, j = 0..1
     [30, 17, 56, 1],
     [29, 18, 120, 1],
     [26, 21, 24, 1],
     [25, 22, 88, 1],
-];
-
-// B( 2 * i, 2 * i + 1, 32 + 16 * i, 1 - i ) for i = 0..1
-const LINE7: [[usize; 4]; 2] = [[0, 1, 32, 1], [2, 3, 48, 0]];
-
-// H( 4 + 2 * i, 5 + 2 * i, i ) for i = 0..1
-const LINE8: [[usize; 3]; 2] = [[4, 5, 0], [6, 7, 1]];
-
-// B( 14 - i, 9 + i, 48 + 64 * i, 1 ) for i = 0..1
-const LINE9: [[usize; 4]; 2] = [[14, 9, 48, 1], [13, 10, 112, 1]];
-
-// H( 16 + 4 * i + j, 19 + 4 * i - j, i & 1 ) for i = 0..3, j = 0..1
-const LINE10: [[usize; 3]; 8] = [
-    [16, 19, 0],
-    [17, 18, 0],
-    [20, 23, 1],
-    [21, 22, 1],
-    [24, 27, 0],
-    [25, 26, 0],
-    [28, 31, 1],
-    [29, 30, 1],
-];
-
-// H( i, 3 - i, 0 ) for i = 0..1
-const LINE11: [[usize; 3]; 2] = [[0, 3, 0], [1, 2, 0]];
-
-// B( 6, 5, 32, 1 )
-const LINE12: [[usize; 4]; 1] = [[6, 5, 32, 1]];
-
-// H( 8 + 4 * i + j, 11 + 4 * i - j, i ) for i = 0..1, j = 0..1
-const LINE13: [[usize; 3]; 4] = [[8, 11, 0], [9, 10, 0], [12, 15, 1], [13, 14, 1]];
-
-// B( 29 - i, 18 + i, 48 + ( i >> 1 ) * 64, 1 ) for i = 0..3
-const LINE14: [[usize; 4]; 4] = [
+    // 7, for n from 2: B( 2 * i, 2 * i + 1, 32 + 16 * i, 1 - i ) for i = 0..1
+    [0, 1, 32, 1],
+    [2, 3, 48, 0],
+    // 8, for n from 3: H( 4 + 2 * i, 5 + 2 * i, i ) for i = 0..1
+    [4, 5, 0, 0],
+    [6, 7, 0, 1],
+    // 9, for n from 4: B( 14 - i, 9 + i, 48 + 64 * i, 1 ) for i = 0..1
+    [14, 9, 48, 1],
+    [13, 10, 112, 1],
+    // 10, for n from 5: H( 16 + 4 * i + j, 19 + 4 * i - j, i & 1 ) for i = 0..3, j = 0..1
+    [16, 19, 0, 0],
+    [17, 18, 0, 0],
+    [20, 23, 0, 1],
+    [21, 22, 0, 1],
+    [24, 27, 0, 0],
+    [25, 26, 0, 0],
+    [28, 31, 0, 1],
+    [29, 30, 0, 1],
+    // 11, for n from 2: H( i, 3 - i, 0 ) for i = 0..1
+    [0, 3, 0, 0],
+    [1, 2, 0, 0],
+    // 12, for n from 3: B( 6, 5, 32, 1 )
+    [6, 5, 32, 1],
+    // 13, for n from 4: H( 8 + 4 * i + j, 11 + 4 * i - j, i ) for i = 0..1, j = 0..1
+    [8, 11, 0, 0],
+    [9, 10, 0, 0],
+    [12, 15, 0, 1],
+    [13, 14, 0, 1],
+    // 14, for n from 5: B( 29 - i, 18 + i, 48 + ( i >> 1 ) * 64, 1 ) for i = 0..3
     [29, 18, 48, 1],
     [28, 19, 48, 1],
     [27, 20, 112, 1],
     [26, 21, 112, 1],
-];
-
-// H( i, 7 - i, 0 ) for i = 0..3
-const LINE15: [[usize; 3]; 4] = [[0, 7, 0], [1, 6, 0], [2, 5, 0], [3, 4, 0]];
-
-// B( 13 - i, 10 + i, 32, 1 ) for i = 0..1
-const LINE16: [[usize; 4]; 2] = [[13, 10, 32, 1], [12, 11, 32, 1]];
-
-// H( 16 + i * 8 + j, 23 + i * 8 - j, i ) for i = 0..1, j = 0..3
-const LINE17: [[usize; 3]; 8] = [
-    [16, 23, 0],
-    [17, 22, 0],
-    [18, 21, 0],
-    [19, 20, 0],
-    [24, 31, 1],
-    [25, 30, 1],
-    [26, 29, 1],
-    [27, 28, 1],
-];
-
-// H( i, 15 - i, 0 ) for i = 0..7
-const LINE18: [[usize; 3]; 8] = [
-    [0, 15, 0],
-    [1, 14, 0],
-    [2, 13, 0],
-    [3, 12, 0],
-    [4, 11, 0],
-    [5, 10, 0],
-    [6, 9, 0],
-    [7, 8, 0],
-];
-
-// B( 27 - i, 20 + i, 32, 1 ) for i = 0..3
-const LINE19: [[usize; 4]; 4] = [
+    // 15, for n from 3: H( i, 7 - i, 0 ) for i = 0..3
+    [0, 7, 0, 0],
+    [1, 6, 0, 0],
+    [2, 5, 0, 0],
+    [3, 4, 0, 0],
+    // 16, for n from 4: B( 13 - i, 10 + i, 32, 1 ) for i = 0..1
+    [13, 10, 32, 1],
+    [12, 11, 32, 1],
+    // 17, for n from 5: H( 16 + i * 8 + j, 23 + i * 8 - j, i ) for i = 0..1, j = 0..3
+    [16, 23, 0, 0],
+    [17, 22, 0, 0],
+    [18, 21, 0, 0],
+    [19, 20, 0, 0],
+    [24, 31, 0, 1],
+    [25, 30, 0, 1],
+    [26, 29, 0, 1],
+    [27, 28, 0, 1],
+    // 18, for n from 4: H( i, 15 - i, 0 ) for i = 0..7
+    [0, 15, 0, 0],
+    [1, 14, 0, 0],
+    [2, 13, 0, 0],
+    [3, 12, 0, 0],
+    [4, 11, 0, 0],
+    [5, 10, 0, 0],
+    [6, 9, 0, 0],
+    [7, 8, 0, 0],
+    // 19, for n from 5: B( 27 - i, 20 + i, 32, 1 ) for i = 0..3
     [27, 20, 32, 1],
     [26, 21, 32, 1],
     [25, 22, 32, 1],
     [24, 23, 32, 1],
+    // 20, for n from 5: H( i, 31 - i, 0 ) for i = 0..15
+    [0, 31, 0, 0],
+    [1, 30, 0, 0],
+    [2, 29, 0, 0],
+    [3, 28, 0, 0],
+    [4, 27, 0, 0],
+    [5, 26, 0, 0],
+    [6, 25, 0, 0],
+    [7, 24, 0, 0],
+    [8, 23, 0, 0],
+    [9, 22, 0, 0],
+    [10, 21, 0, 0],
+    [11, 20, 0, 0],
+    [12, 19, 0, 0],
+    [13, 18, 0, 0],
+    [14, 17, 0, 0],
+    [15, 16, 0, 0],
 ];
 
-// H( i, 31 - i, 0 ) for i = 0..15
-const LINE20: [[usize; 3]; 16] = [
-    [0, 31, 0],
-    [1, 30, 0],
-    [2, 29, 0],
-    [3, 28, 0],
-    [4, 27, 0],
-    [5, 26, 0],
-    [6, 25, 0],
-    [7, 24, 0],
-    [8, 23, 0],
-    [9, 22, 0],
-    [10, 21, 0],
-    [11, 20, 0],
-    [12, 19, 0],
-    [13, 18, 0],
-    [14, 17, 0],
-    [15, 16, 0],
-];
-
-// The lines in order, each with the least n that it is for.
+// All lines.
 fn lines(t: &mut [i32; 32], n: usize)
-    requires { ⌜ Lines.Ahead (Network.table n) (now t) ⌝ }
-    ensures { λ _. ⌜ now (t .exit) ≡ Lines.run-lines (Network.table n) (now (t .entry)) ⌝ }
+    requires { ⌜ Lines.Able (Network.steps n) (now t) ⌝ }
+    ensures { λ _. ⌜ now (t .exit) ≡ Network.run exact (Network.steps n) (now (t .entry)) ⌝ }
 {
-    rotations(&mut *t, 5 <= n, &LINE1);
-    rotations(&mut *t, 4 <= n, &LINE2);
-    butterflies(&mut *t, 5 <= n, &LINE3);
-    rotations(&mut *t, 3 <= n, &LINE4);
-    butterflies(&mut *t, 4 <= n, &LINE5);
-    rotations(&mut *t, 5 <= n, &LINE6);
-    rotations(&mut *t, 2 <= n, &LINE7);
-    butterflies(&mut *t, 3 <= n, &LINE8);
-    rotations(&mut *t, 4 <= n, &LINE9);
-    butterflies(&mut *t, 5 <= n, &LINE10);
-    butterflies(&mut *t, 2 <= n, &LINE11);
-    rotations(&mut *t, 3 <= n, &LINE12);
-    butterflies(&mut *t, 4 <= n, &LINE13);
-    rotations(&mut *t, 5 <= n, &LINE14);
-    butterflies(&mut *t, 3 <= n, &LINE15);
-    rotations(&mut *t, 4 <= n, &LINE16);
-    butterflies(&mut *t, 5 <= n, &LINE17);
-    butterflies(&mut *t, 4 <= n, &LINE18);
-    rotations(&mut *t, 5 <= n, &LINE19);
-    butterflies(&mut *t, 5 <= n, &LINE20);
+    walk(t, n, &LINES, &STEPS);
 }
 
 // The inverse DCT of 2^n points: the permutation, then the lines.

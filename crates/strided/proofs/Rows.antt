@@ -6,16 +6,16 @@ use mathlib.Core.List.{List, []}
 use Prim.Native.Nat.{ℕ, suc, _+_, _-_, _*_, _≤_, _<_}
 use native.Mathlib.Nat.{mul-le-mul-right}
 use native.Mathlib.Omega.{arith}
-use borrow.Author.Tests.{ltb-true, ltb-false, leb-true, le-leb, lt-leb}
+use borrow.Author.Tests.{ltb-true, ltb-false, leb-true, le-leb, lt-leb, not-false}
 use denote.Ref.{RefT}
 use lib.Dec.{ltb, leb}
 use lib.IntN.{ℤ, pos, negsuc, natAbs}
 use lib.ListN.{getD, length, take, drop, length-drop}
 use lib.Seq.{getD-take, getD-drop, length-take-le}
 use lib.Signed.{nonNeg}
-use Rattle.whole.specs.Checks.{Check, accept, refuse, unless}
+use Rattle.whole.specs.Checks.{Check, accept, refuse}
 use Rattle.whole.proofs.Checks.{open-unless, same-accept}
-use Rattle.whole.proofs.Clips.{or-false}
+use Rattle.whole.proofs.Clips.{or-false, and-true}
 use Rattle.whole.proofs.Counts.{any-none, any-found, none-of-any}
 use Rattle.whole.proofs.Parts.{pp, nn, Rep, abs-parts, rep-self, rep-add, rep-mul}
 use Rattle.levels.specs.Plans.{shift-of}
@@ -23,15 +23,9 @@ use Rattle.strided.specs.declared.Part.{Part}
 use Rattle.strided.specs.declared.Width.{Width}
 use Rattle.strided.specs.declared.Spot.{Spot}
 use Rattle.strided.specs.declared.View.{View}
-use Rattle.strided.specs.Planes.{odd, bytes-of, in-pixels, starts, within, rows-outside, not-in, bad-view, spot, begins, spot-outside, spotted, Spotted, Plane, place, accepted, part-when, has-row, IsPart}
-
-and-true : (s t : Bool) → s && t ≡ true → (s ≡ true) × (t ≡ true)
-and-true true t e = (refl, e)
-and-true false t e = (e, elim t [ true ↦ refl | false ↦ e ])
-
-not-false : (s : Bool) → not s ≡ false → s ≡ true
-not-false true e = refl
-not-false false e = sym e
+use Rattle.strided.specs.Planes.{odd, bytes-of, in-pixels, starts, within, rows-outside, not-in, bad-view, spot, begins, spot-outside}
+use Rattle.strided.specs.Planes.{spotted, Spotted, Plane, place, part-when, has-row, IsPart}
+use Rattle.whole.specs.Checks.{accepted}
 
 nonneg-part : (z : ℤ) → nonNeg z ≡ true → nn z ≡ 0
 nonneg-part (pos n) e = refl
@@ -57,7 +51,8 @@ beyond-slice size w (negsuc n) a = refl
 -- row y starts at o + y * pp s - y * nn s
 module _ (size o : ℕ) (s : ℤ) (w h : ℕ) where
   pub all-inside : ((y : ℕ) → y < h → (y * nn s ≤ o + y * pp s) × (o + y * pp s + w ≤ size + y * nn s)) → rows-outside size o s w h ≡ false
-  all-inside f = any-none h _ (λ y l. ap not (within-yes size w (starts o s y) (omega (arith, f y l .0, start-parts o y s .rep)) (omega (arith, f y l .1, start-parts o y s .rep))))
+  all-inside f = any-none h _ (λ y l. ap not (within-yes size w (starts o s y) (omega (arith, f y l .0, start-parts o y s .rep))
+      (omega (arith, f y l .1, start-parts o y s .rep))))
 
   pub one-before : (y : ℕ) → y < h → o + y * pp s < y * nn s → rows-outside size o s w h ≡ true
   one-before y l a = any-found h _ y l (ap not (before-slice size w (starts o s y) (omega (arith, start-parts o y s .rep))))
@@ -87,22 +82,37 @@ module _ (size o : ℕ) (s : ℤ) (w h room : ℕ) (first : o + w ≤ size) (row
       inside : (y : ℕ) → y < h → (y * nn s ≤ o + y * pp s) × (o + y * pp s + w ≤ size + y * nn s)
       inside y l =
           let m = mul-le-mul-right {m = y} {n = h - 1} (natAbs s) (omega arith) in
-          ⊎-elim (λ e. (omega (arith, m, by-size y, none-of y (e .0)), omega (arith, none-of y (e .0)))) (λ e. (omega (arith, none-of y (e .0)), omega (arith, m, by-size y, none-of y (e .0)))) side
+          ⊎-elim (λ e. (omega (arith, m, by-size y, none-of y (e .0)), omega (arith, none-of y (e .0))))
+          (λ e. (omega (arith, none-of y (e .0)), omega (arith, m, by-size y, none-of y (e .0)))) side
 
   pub room-short : room < (h - 1) * natAbs s → rows-outside size o s w h ≡ true
   room-short k =
-      ⊎-elim
-      (λ e. one-before size o s w h (h - 1) (omega arith) (omega (arith, none-of (h - 1) (e .0), by-size (h - 1))))
+      ⊎-elim (λ e. one-before size o s w h (h - 1) (omega arith) (omega (arith, none-of (h - 1) (e .0), by-size (h - 1))))
       (λ e. one-beyond size o s w h (h - 1) (omega arith) (omega (arith, none-of (h - 1) (e .0), by-size (h - 1))))
       side
 
 -- ---- rows at least w apart do not meet
 
-apart-by : (o w y u : ℕ) (s : ℤ) → w ≤ natAbs s → y < u → (x t : ℕ) → x < w → t < w → nn (starts o s y) ≡ 0 → nn (starts o s u) ≡ 0 → natAbs (starts o s y) + x ≡ natAbs (starts o s u) + t → ⊥
+apart-by : (o w y u : ℕ) (s : ℤ) → w ≤ natAbs s → y < u → (x t : ℕ) → x < w → t < w → nn (starts o s y) ≡ 0
+    → nn (starts o s u) ≡ 0 → natAbs (starts o s y) + x ≡ natAbs (starts o s u) + t → ⊥
 apart-by o w y u (pos k) l b x t h g m n e =
-    omega (arith, start-parts o y (pos k) .rep, start-parts o u (pos k) .rep, abs-parts (starts o (pos k) y), abs-parts (starts o (pos k) u), mul-le-mul-right {m = suc y} {n = u} k b)
+    omega (
+      arith,
+      start-parts o y (pos k) .rep,
+      start-parts o u (pos k) .rep,
+      abs-parts (starts o (pos k) y),
+      abs-parts (starts o (pos k) u),
+      mul-le-mul-right {m = suc y} {n = u} k b,
+    )
 apart-by o w y u (negsuc k) l b x t h g m n e =
-    omega (arith, start-parts o y (negsuc k) .rep, start-parts o u (negsuc k) .rep, abs-parts (starts o (negsuc k) y), abs-parts (starts o (negsuc k) u), mul-le-mul-right {m = suc y} {n = u} (suc k) b)
+    omega (
+      arith,
+      start-parts o y (negsuc k) .rep,
+      start-parts o u (negsuc k) .rep,
+      abs-parts (starts o (negsuc k) y),
+      abs-parts (starts o (negsuc k) u),
+      mul-le-mul-right {m = suc y} {n = u} (suc k) b,
+    )
 
 -- ---- a view in a slice
 
@@ -127,15 +137,10 @@ row-here size s e y l = row-within size (s .offset) (s .stride .0) (s .columns) 
 
 pub spotted-by : (k : Width) (size w h : ℕ) (v : View) (s : Spot) → spotted k size w h v ≡ accept s → Spotted k size w h v × (s ≡ spot k v)
 spotted-by k size w h v s e =
-    let e20 = open-unless _ 20 _ s e in
-    let e7 = open-unless _ 7 _ s (e20 .1) in
-    let e8 = open-unless _ 8 _ s (e7 .1) in
+    let e20 = open-unless _ 20 _ s e in let e7 = open-unless _ 7 _ s (e20 .1) in let e8 = open-unless _ 8 _ s (e7 .1) in
     (record { seen = e20 .0; stride = e7 .0; inside = e8 .0 }, sym (same-accept (spot k v) s (e8 .1)))
 
 module _ (wd : Width) (size w h : ℕ) (v : View) (k : Spotted wd size w h v) where
-  pub spotting : spotted wd size w h v ≡ accept (spot wd v)
-  spotting = λ i. unless (k .seen i) 20 (unless (k .stride i) 7 (unless (k .inside i) 8 (accept (spot wd v))))
-
   pub row-fits : (y : ℕ) → y < v .rows → begins (spot wd v) y + v .columns ≤ size
   row-fits y l = row-here size (spot wd v) (k .inside) y l .1
 
@@ -197,13 +202,8 @@ module _ (a : Plane) (w h y : ℕ) where
 
     pub row-length : length handed ≡ v .columns
     row-length =
-        ap length (by-test e)
-        ∙ length-take-le (v .columns) (drop (begins (spot (a .width) v) y) (a .pixels)) (omega (arith, fits, length-drop (begins (spot (a .width) v) y) (a .pixels)))
-
-    pub row-pixel : (x : ℕ) → x < v .columns → getD handed x 0 ≡ getD (a .pixels) (place a y x) 0
-    row-pixel x l =
-        ap (λ (ps : List ℕ). getD ps x 0) (by-test e)
-        ∙ getD-take (v .columns) (drop (begins (spot (a .width) v) y) (a .pixels)) x 0 l ∙ getD-drop (begins (spot (a .width) v) y) (a .pixels) x 0
+        ap length (by-test e) ∙ length-take-le (v .columns) (drop (begins (spot (a .width) v) y) (a .pixels))
+        (omega (arith, fits, length-drop (begins (spot (a .width) v) y) (a .pixels)))
 
   -- in any case the part is inside
   pub part-fits : {p : Part} → p ≡ found has-it → p .from + p .size ≤ size

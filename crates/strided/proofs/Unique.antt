@@ -18,7 +18,8 @@ use Rattle.strided.specs.declared.SpotCheck.the-variants.{Found, NotVisi
 use Rattle.strided.specs.declared.StrideCheck.{StrideCheck}
 use Rattle.strided.specs.declared.StrideCheck.the-variants.{Pixels, Refused}
 use Rattle.strided.specs.declared.View.{View}
-use Rattle.strided.specs.Planes.{spot-check, spotted, IsPart, stride-check, turned, rows-check}
+use Rattle.strided.specs.Planes.{spotted, IsPart}
+use Rattle.strided.specs.Inner.{spot-check, stride-check, converted, rows-check}
 
 abbrev stride-back : Check ℤ → StrideCheck
 stride-back (accept s) = Pixels (record { 0 = s })
@@ -28,7 +29,8 @@ stride-back-is : (r : StrideCheck) → stride-back (stride-check r) ≡ r
 stride-back-is (Pixels s) = refl
 stride-back-is Refused = refl
 
-pub one-stride : (k : Width) (w : ℕ) (bytes : ℤ) (r r′ : StrideCheck) → stride-check r ≡ turned k w bytes → stride-check r′ ≡ turned k w bytes → r ≡ r′
+pub one-stride : (k : Width) (w : ℕ) (bytes : ℤ) (r r′ : StrideCheck) → stride-check r ≡ converted k w bytes
+    → stride-check r′ ≡ converted k w bytes → r ≡ r′
 one-stride k w bytes r r′ = one-answer stride-check stride-back stride-back-is
 
 abbrev rows-back : Check (Unit {0}) → RowsCheck
@@ -52,9 +54,11 @@ spot-back-is NotVisible = refl
 spot-back-is BadStride = refl
 spot-back-is RowOutside = refl
 
-pub one-spot : (k : Width) (size w h : ℕ) (v : View) (r r′ : SpotCheck) → spot-check r ≡ spotted k size w h v → spot-check r′ ≡ spotted k size w h v → r ≡ r′
+pub one-spot : (k : Width) (size w h : ℕ) (v : View) (r r′ : SpotCheck) → spot-check r ≡ spotted k size w h v
+    → spot-check r′ ≡ spotted k size w h v → r ≡ r′
 one-spot k size w h v r r′ = one-answer spot-check spot-back spot-back-is
 
 -- what a row lookup hands back points to one place and holds one list
-pub one-row : (k : Width) (s r r′ : RefT (List ℕ)) (p : Part) → IsPart k s r p → IsPart k s r′ p → (r .ptr .0 ≡ r′ .ptr .0) × (r .ptr .1 ≡ r′ .ptr .1) × (r .now ≡ r′ .now)
+pub one-row : (k : Width) (s r r′ : RefT (List ℕ)) (p : Part) → IsPart k s r p → IsPart k s r′ p → (r .ptr .0 ≡ r′ .ptr .0)
+    × (r .ptr .1 ≡ r′ .ptr .1) × (r .now ≡ r′ .now)
 one-row k s r r′ p a a′ = (a .slice ∙ sym (a′ .slice), a .at ∙ sym (a′ .at), a .elements ∙ sym (a′ .elements))

@@ -8,12 +8,7 @@ use lib.IntN.{ℤ, pos, negsuc, natAbs}
 use Rattle.whole.specs.Numbers.{_>>_}
 use Rattle.strided.specs.declared.View.{View}
 use Rattle.strided.specs.declared.Width.the-variants.{Wide, Narrow}
-use Rattle.strided.specs.Planes.{in-pixels, odd, bad-stride, spot}
-
--- twice a stride
-abbrev pub twice : ℤ → ℤ
-twice (pos n) = pos (n * 2)
-twice (negsuc n) = negsuc (n * 2 + 1)
+use Rattle.strided.specs.Planes.{in-pixels, odd, bad-stride, spot, twice, doubled}
 
 pub half-twice : (s : ℤ) → in-pixels Wide (twice s) ≡ s
 unfolding Rattle.whole.specs.Numbers._>>_
@@ -23,10 +18,6 @@ half-twice (negsuc n) = ap negsuc (omega arith)
 even-twice : (s : ℤ) → odd Wide (twice s) ≡ false
 even-twice (pos n) = let e : n * 2 % 2 ≡ 0 = omega arith in ap (λ (k : ℕ). eqb k 1) e
 even-twice (negsuc n) = let e : suc (n * 2 + 1) % 2 ≡ 0 = omega arith in ap (λ (k : ℕ). eqb k 1) e
-
--- the view in the wide plane
-abbrev pub doubled : View → View
-doubled v = record { offset = v .offset; stride = record { 0 = twice (v .stride .0) }; columns = v .columns; rows = v .rows }
 
 pub same-spot : (v : View) → spot Narrow v ≡ spot Wide (doubled v)
 same-spot v = λ i. record { offset = v .offset; stride = record { 0 = sym (half-twice (v .stride .0)) i }; columns = v .columns; rows = v .rows }

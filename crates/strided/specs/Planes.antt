@@ -5,24 +5,18 @@ use mathlib.Core.Path.{_≡_}
 use Prim.Native.Nat.{ℕ, _+_, _*_, _%_}
 use denote.Ref.{RefT}
 use lib.Dec.{eqb, ltb, leb}
-use lib.IntN.{ℤ, pos, _+ℤ_, _*ℤ_, natAbs}
+use lib.IntN.{ℤ, pos, negsuc, _+ℤ_, _*ℤ_, natAbs}
 use lib.ListN.{length, take, drop}
 use lib.Signed.{nonNeg}
 use Rattle.whole.specs.Numbers.{_>>_}
 use Rattle.whole.specs.Lists.{any}
-use Rattle.whole.specs.Checks.{Check, accept, refuse, unless}
+use Rattle.whole.specs.Checks.{Check, accept, accepted, unless}
 use Rattle.levels.specs.Plans.{shift-of}
 use Rattle.strided.specs.declared.Part.{Part}
 use Rattle.strided.specs.declared.View.{View}
 use Rattle.strided.specs.declared.Width.{Width}
 use Rattle.strided.specs.declared.Width.the-variants.{Wide, Narrow}
 use Rattle.strided.specs.declared.Spot.{Spot}
-use Rattle.strided.specs.declared.SpotCheck.{SpotCheck}
-use Rattle.strided.specs.declared.SpotCheck.the-variants.{Found, NotVisible, BadStride, RowOutside}
-use Rattle.strided.specs.declared.RowsCheck.{RowsCheck}
-use Rattle.strided.specs.declared.RowsCheck.the-variants.{Inside, Outside}
-use Rattle.strided.specs.declared.StrideCheck.{StrideCheck}
-use Rattle.strided.specs.declared.StrideCheck.the-variants.{Pixels, Refused}
 
 -- ---- strides and rows
 
@@ -67,10 +61,6 @@ bad-view w h v = not-in w (v .columns) || not-in h (v .rows)
 -- the view with its stride in pixels
 abbrev pub spot : Width → View → Spot
 spot k v = record { offset = v .offset; stride = record { 0 = in-pixels k (v .stride .0) }; columns = v .columns; rows = v .rows }
-
--- a spot with so many columns
-abbrev pub wide : Spot → ℕ → Spot
-wide s columns = record { offset = s .offset; stride = s .stride; columns = columns; rows = s .rows }
 
 -- where row y starts, as a place in the slice
 abbrev pub begins : Spot → ℕ → ℕ
@@ -118,15 +108,24 @@ whole w h = record { offset = 0; stride = record { 0 = pos (2 * w) }; columns = 
 abbrev pub row-outside : Plane → Bool
 row-outside a = spot-outside (length (a .pixels)) (lies a)
 
+-- where row y starts
+abbrev pub row-start : Plane → ℕ → ℤ
+row-start a y = starts (lies a .offset) (lies a .stride .0) y
+
 -- where the pixel of row y, column x stands
 abbrev pub place : Plane → ℕ → ℕ → ℕ
 place a y x = begins (lies a) y + x
 
--- ---- the row lookup
+-- ---- a narrow plane beside a wide one (E2): "the wide form on the same numbers with twice the stride"
 
-abbrev pub accepted : {A : Type 0} → Check A → Bool
-accepted (accept a) = true
-accepted (refuse n i) = false
+abbrev pub twice : ℤ → ℤ
+twice (pos n) = pos (n * 2)
+twice (negsuc n) = negsuc (n * 2 + 1)
+
+abbrev pub doubled : View → View
+doubled v = record { offset = v .offset; stride = record { 0 = twice (v .stride .0) }; columns = v .columns; rows = v .rows }
+
+-- ---- the row lookup
 
 -- "an empty part exactly when number 1, 7 or 8 holds", "also for 20 or an invisible row" (E5): whether a slice of so many pixels has the row
 abbrev pub has-row : Width → ℕ → View → ℕ → ℕ → ℕ → Bool
@@ -145,22 +144,3 @@ pub record IsPart (k : Width) (s r : RefT (List ℕ)) (p : Part) : Type 0 where
   pub slice : r .ptr .0 ≡ s .ptr .0
   pub at : r .ptr .1 ≡ s .ptr .1 + p .from * bytes-of k
   pub elements : r .now ≡ take (p .size) (drop (p .from) (s .now))
-
--- ---- what the answers say, in the table's numbers
-
-abbrev pub stride-check : StrideCheck → Check ℤ
-stride-check (Pixels s) = accept (s .0)
-stride-check Refused = refuse 7 0
-
-abbrev pub turned : Width → ℕ → ℤ → Check ℤ
-turned k w bytes = unless (bad-stride k w bytes) 7 (accept (in-pixels k bytes))
-
-abbrev pub rows-check : RowsCheck → Check (Unit {0})
-rows-check Inside = accept tt
-rows-check Outside = refuse 8 0
-
-abbrev pub spot-check : SpotCheck → Check Spot
-spot-check (Found s) = accept s
-spot-check NotVisible = refuse 20 0
-spot-check BadStride = refuse 7 0
-spot-check RowOutside = refuse 8 0

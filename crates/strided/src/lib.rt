@@ -4,7 +4,8 @@ ghost use lib.IntN.{natAbs};
 ghost use lib.ListN.{length};
 ghost use Rattle.whole.specs.Checks.{accept, unless};
 ghost use Rattle.strided.specs.declared.Width.the-variants.{Wide, Narrow};
-ghost use Rattle.strided.specs.Planes.{stride-check, turned, starts, rows-check, rows-outside, spot-check, spotted, wide, row-part, IsPart};
+ghost use Rattle.strided.specs.Planes.{starts, rows-outside, spotted, row-part, IsPart};
+ghost use Rattle.strided.specs.Inner.{stride-check, converted, rows-check, spot-check, wide};
 use levels::SizeCheck;
 use levels::size_shift;
 
@@ -73,7 +74,7 @@ fn distance(v: i32) -> usize
 impl ByteStride {
     // One byte a pixel.
     fn as_pixels(self, w: usize) -> StrideCheck
-        ensures { λ r. ⌜ stride-check r ≡ turned Narrow w (self .0) ⌝ }
+        ensures { λ r. ⌜ stride-check r ≡ converted Narrow w (self .0) ⌝ }
     {
         let pixels = self.0;
         if distance(pixels) < w {
@@ -84,7 +85,7 @@ impl ByteStride {
 
     // Two bytes a pixel.
     fn half_pixels(self, w: usize) -> StrideCheck
-        ensures { λ r. ⌜ stride-check r ≡ turned Wide w (self .0) ⌝ }
+        ensures { λ r. ⌜ stride-check r ≡ converted Wide w (self .0) ⌝ }
     {
         let bytes = self.0;
         if bytes % 2 != 0 {
@@ -98,7 +99,7 @@ impl ByteStride {
     }
 
     pub fn in_pixels(self, width: Width, w: usize) -> StrideCheck
-        ensures { λ r. ⌜ stride-check r ≡ turned width w (self .0) ⌝ }
+        ensures { λ r. ⌜ stride-check r ≡ converted width w (self .0) ⌝ }
     {
         match width {
             Width::Wide => self.half_pixels(w),

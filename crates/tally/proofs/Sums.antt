@@ -13,8 +13,8 @@ use mir.Facts.{and-yes}
 use Rattle.whole.specs.Checks.{Check, accept, refuse}
 use Rattle.whole.specs.Lists.{tab}
 use Rattle.whole.proofs.Checks.{refuse≢accept}
-use Rattle.av1.specs.Sides.{Side, of4, of8, of16, of32, len, side}
-use Rattle.itx_1d.specs.declared.Kind.{Kind}
+use Rattle.levels.specs.Sides.{Side, of4, of8, of16, of32, len, side}
+use Rattle.levels.specs.declared.Kind.{Kind}
 use Rattle.levels.specs.declared.Plan.{Plan}
 use Rattle.levels.specs.Plans.{TxType, types, kinds-at, kinds-in, kinds-of, plan}
 use Rattle.levels.proofs.Types.{all}
@@ -24,8 +24,9 @@ use Rattle.itx.specs.Calls.{Block, Call, verdict, outcome}
 use Rattle.itx.proofs.Verdicts.{accepted-by}
 use Rattle.itx.proofs.Numbers.{num, answer-num, refusal-number}
 use Rattle.blockfile.specs.Form.{Each}
-use Rattle.tally.specs.Totals.{Tally, sum, greatest, one-if, moves, is-of, totals, _⊕_}
-use Rattle.tally.specs.Totals.{cells, cell-w, cell-h, cell-type, in-cell, Countable}
+use Rattle.tally.specs.Totals.{Tally, sum, greatest, one-if, moves, is-of, totals, _⊕_, all-cells}
+use Rattle.tally.specs.Totals.{cells, cell-w, cell-h, cell-type, in-cell}
+use Rattle.tally.specs.Inner.{Countable}
 use Rattle.tally.specs.Inner.{Rank, CellOf}
 
 pub sum-append : {A : Type 0} (f : A → ℕ) (xs ys : List A) → sum f (xs ++ ys) ≡ sum f xs + sum f ys
@@ -80,10 +81,8 @@ ranked n e = let s = side-rank (side n) in (s .0, record { below = s .1 .below; 
 -- the cell of a width's rank, a height's rank and a type
 pub cell-at : {w h txtp a b : ℕ} → Rank w a → Rank h b → txtp ≤ 16 → CellOf w h txtp (a * 68 + b * 17 + txtp)
 cell-at {w} {h} {txtp} {a} {b} u v t =
-    let k = a * 68 + b * 17 + txtp in
-    let wide : k / 68 ≡ a = omega (arith, u .below, v .below) in
-    let high : k / 17 % 4 ≡ b = omega (arith, u .below, v .below) in
-    record {
+    let k = a * 68 + b * 17 + txtp in let wide : k / 68 ≡ a = omega (arith, u .below, v .below) in
+    let high : k / 17 % 4 ≡ b = omega (arith, u .below, v .below) in record {
       inside = omega (arith, u .below, v .below);
       w-is = ap (λ (r : ℕ). 4 * 2 ^ r) wide ∙ u .is;
       h-is = ap (λ (r : ℕ). 4 * 2 ^ r) high ∙ v .is;
@@ -124,9 +123,7 @@ one-cell t k c j h = go (eqb j k) refl (is-of (cell-w j) (cell-h j) (cell-type j
   where
     of-cell : is-of (cell-w j) (cell-h j) (cell-type j) t ≡ true → CellOf (t .w) (t .h) (t .txtp) j
     of-cell e =
-        let p = both-true _ _ e in
-        let q = both-true _ _ (p .1) in
-        record {
+        let p = both-true _ _ e in let q = both-true _ _ (p .1) in record {
           inside = h;
           w-is = sym (eqb-true (t .w) (cell-w j) (p .0));
           h-is = sym (eqb-true (t .h) (cell-h j) (q .0));
@@ -161,16 +158,11 @@ sum-one (suc n) f g zero h e =
       sum-none n f (λ i. g (suc i)) (λ j l. e (suc j) (omega arith) ∙ ap one-if (ne-eqb (suc j) 0 (λ q. omega arith))),
     )
 sum-one (suc n) f g (suc k) h e =
-    let first : f (g 0) ≡ 0 = e 0 (omega arith) ∙ ap one-if (ne-eqb 0 (suc k) (λ q. omega arith)) in
-    omega (
+    let first : f (g 0) ≡ 0 = e 0 (omega arith) ∙ ap one-if (ne-eqb 0 (suc k) (λ q. omega arith)) in omega (
       arith,
       first,
       sum-one n f (λ i. g (suc i)) k (omega arith) (λ j l. e (suc j) (omega arith) ∙ ap one-if (eqb·suc-suc j k)),
     )
-
--- the cells in order
-abbrev pub all-cells : List ℕ
-all-cells = tab cells (λ k. k)
 
 -- a record counts once in all of them
 pub counts-once : (t : Tally) → Countable (t .w) (t .h) (t .txtp)
@@ -203,8 +195,7 @@ type-few w h n k = go types tt
 
 planned-countable : (w h type : ℕ) (p : Plan) → plan w h type ≡ accept p → Countable w h type
 planned-countable w h type p e =
-    let k = plan-of w h type p e in
-    let s = shift-sided w h (p .shift) (k .shift-is) in
+    let k = plan-of w h type p e in let s = shift-sided w h (p .shift) (k .shift-is) in
     record { wide = s .0; high = s .1; type = type-few w h type (p .rows, p .columns) (k .kinds-are) }
 
 countable : (call : Call) (b : Block) (p : Plan) (d : Depth) → verdict call b ≡ accept (p, d) → Countable (b .w) (b .h) (b .type)

@@ -13,13 +13,14 @@ use lib.Pow.{pow-mono}
 use lib.Seq.{take-suc, take-suc-set, take-all, drop-cons}
 use Rattle.whole.specs.Lists.{tab}
 use Rattle.whole.proofs.Counts.{tab-at, tab-ext}
-use Rattle.blockfile.specs.Answer.{Put}
+use Rattle.blockfile.specs.Inner.{Put}
 use Rattle.blockfile.proofs.Writing.{put-then, leaves}
 use Rattle.text.specs.Text.{decimal, line}
 use Rattle.tally.specs.Totals.{Tally, sum, greatest, one-if, distance, distances, moves, Totals, totals, _⊕_, cells, cell-w, cell-h, cell-type}
-use Rattle.tally.specs.Totals.{in-cell, cellLine, joined, word-records, word-marked, word-change, word-largest, headed, report, sumsOf}
-use Rattle.tally.specs.Totals.{Paired, Kept}
-use Rattle.tally.specs.Inner.{cellLines, CellOf, Measured}
+use Rattle.tally.specs.Totals.{in-cell, cell-line, joined, headed, report}
+use Rattle.tally.specs.Inner.{sums-of}
+use Rattle.tally.specs.Inner.{Paired, Kept}
+use Rattle.tally.specs.Inner.{cell-lines, CellOf, Measured}
 use Rattle.tally.proofs.Tabs.{set-tab}
 use Rattle.text.proofs.Texts.{decimal-short}
 use Rattle.tally.proofs.Sums.{sum-append, greatest-append, totals-append, one-cell}
@@ -72,8 +73,7 @@ module _ (before after : List ℕ) where
 
     pub finish : length before ≤ i → Measured (distances before after) (record { sum = total; largest = largest })
     finish e =
-        let all : first i ≡ distances before after = take-all i (distances before after) (omega (arith, as-long)) in
-        record {
+        let all : first i ≡ distances before after = take-all i (distances before after) (omega (arith, as-long)) in record {
           sum-is = m .sum-is ∙ ap (sum (λ d. d)) all;
           largest-is = m .largest-is ∙ ap (greatest (λ d. d)) all;
           small = omega (arith, m .small, m .count, p .few);
@@ -94,8 +94,7 @@ module _ (pixels copy₀ : List ℕ) where
   module _ {copy : List ℕ} {i : ℕ} (k : Keeping copy i) where
     pub keep-next : length pixels ≤ length copy₀ → i < length pixels → Keeping (set copy i (getD pixels i 0)) (i + 1)
     keep-next fits h =
-        let x = getD pixels i 0 in
-        record {
+        let x = getD pixels i 0 in record {
           front = rw (add-one i)
               (take-suc-set copy i x (omega (arith, k .same-length)) ∙ ap (λ (l : List ℕ). l ++ (x ∷ [])) (k .front) ∙ sym (take-suc pixels i 0 h));
           same-length = length-set copy i x ∙ k .same-length;
@@ -150,9 +149,7 @@ data Parted : List ℕ → Type 0 where
 
 part : (s : List ℕ) → 4 ≤ length s → Parted s
 part s h =
-    subst Parted
-    (sym (drop-cons s 0 0 (omega arith)
-    ∙ ap (λ l. getD s 0 0 ∷ l) (drop-cons s 1 0 (omega arith)
+    subst Parted (sym (drop-cons s 0 0 (omega arith) ∙ ap (λ l. getD s 0 0 ∷ l) (drop-cons s 1 0 (omega arith)
     ∙ ap (λ l. getD s 1 0 ∷ l) (drop-cons s 2 0 (omega arith) ∙ ap (λ l. getD s 2 0 ∷ l) (drop-cons s 3 0 (omega arith))))))
     (parted (getD s 0 0) (getD s 1 0) (getD s 2 0) (getD s 3 0) (drop 4 s))
 
@@ -197,11 +194,10 @@ module _ (a : Totals) (t : Tally) (k : ℕ) (c : CellOf (t .w) (t .h) (t .txtp) 
   cells-after = ap (set (tab cells (in-cell a)) k) this ∙ set-tab cells (in-cell a) after k (c .inside) others
 
   one-record : {m d l : ℕ} → m ≡ one-if (t .mark) → d ≡ sum (λ d. d) (moves t) → l ≡ greatest (λ d. d) (moves t)
-      → with-cell (sumsOf a) m d (max (a .largest) l) k ≡ sumsOf (a ⊕ totals (t ∷ []))
-  unfolding sumsOf
+      → with-cell (sums-of a) m d (max (a .largest) l) k ≡ sums-of (a ⊕ totals (t ∷ []))
+  unfolding sums-of
   one-record {m} {d} {l} p q r =
-      rw (past-four k) (λ i.
-      (a .records + 1)
+      rw (past-four k) (λ i. (a .records + 1)
       ∷ (a .marked + (p ∙ sym (add-zero _)) i)
       ∷ (a .change + (q ∙ sym (add-zero _)) i)
       ∷ max (a .largest) ((r ∙ sym (max-zero _)) i)
@@ -210,11 +206,11 @@ module _ (a : Totals) (t : Tally) (k : ℕ) (c : CellOf (t .w) (t .h) (t .txtp) 
 -- the code's r is the greater
 pub totals-more : {s : List ℕ} (t : Tally) {m d l r k : ℕ} → CellOf (t .w) (t .h) (t .txtp) k → m ≡ one-if (t .mark) → d ≡ sum (λ d. d) (moves t)
     → l ≡ greatest (λ d. d) (moves t) → r ≡ max (getD (with-change s m d) 3 0) l
-    → (ts : List Tally) → s ≡ sumsOf (totals ts) → with-cell s m d r k ≡ sumsOf (totals (ts ++ (t ∷ [])))
-unfolding sumsOf
+    → (ts : List Tally) → s ≡ sums-of (totals ts) → with-cell s m d r k ≡ sums-of (totals (ts ++ (t ∷ [])))
+unfolding sums-of
 totals-more {s} t {m} {d} {l} {r} {k} c p q g e ts is =
     ap (λ r. with-cell s m d r k) e ∙ ap (λ s. with-cell s m d (max (getD (with-change s m d) 3 0) l) k) is
-    ∙ one-record (totals ts) t k c p q g ∙ ap sumsOf (sym (totals-append ts (t ∷ [])))
+    ∙ one-record (totals ts) t k c p q g ∙ ap sums-of (sym (totals-append ts (t ∷ [])))
 
 -- ---- no record yet
 
@@ -223,12 +219,9 @@ zeros zero k = refl
 zeros (suc n) zero = refl
 zeros (suc n) (suc k) = zeros n k
 
-pub none-yet : replicate 276 0 ≡ sumsOf (totals [])
-unfolding sumsOf
+pub none-yet : replicate 276 0 ≡ sums-of (totals [])
+unfolding sums-of
 none-yet = refl
-
-pub kept-none : Kept (replicate 276 0)
-kept-none = record { size = refl; marked = omega arith; change = omega arith; counts = λ k h. omega (arith, zeros 276 (4 + k)) }
 
 -- ---- lines
 
@@ -242,22 +235,22 @@ pub number-short : (k n end : ℕ) → 1 ≤ k → n < 10 ^ k → length (decima
 number-short k n end h small = rw length-append (omega (arith, decimal-short k n h small))
 
 -- a cell that was not met has no line, and another's has four numbers
-pub no-line : {s : List ℕ} {at : ℕ} (k : ℕ) {n : ℕ} → n ≡ 0 → at ≤ length s → Put (cellLine k n) s at s at
-unfolding cellLine
+pub no-line : {s : List ℕ} {at : ℕ} (k : ℕ) {n : ℕ} → n ≡ 0 → at ≤ length s → Put (cell-line k n) s at s at
+unfolding cell-line
 no-line k {n} none h = rw (eq-eqb n 0 none) (record { elements = refl; place = omega arith; room = h })
 
-pub cell-line : {s a b c f : List ℕ} {at p q o r : ℕ} (k : ℕ) {w h n : ℕ} → (n ≡ 0 → ⊥) → w ≡ cell-w k → h ≡ cell-h k
+pub cell-line-is : {s a b c f : List ℕ} {at p q o r : ℕ} (k : ℕ) {w h n : ℕ} → (n ≡ 0 → ⊥) → w ≡ cell-w k → h ≡ cell-h k
     → Put (decimal w ++ 32 ∷ []) s at a p → Put (decimal h ++ 32 ∷ []) a p b q → Put (decimal (cell-type k) ++ 32 ∷ []) b q c o
-    → Put (decimal n ++ 10 ∷ []) c o f r → Put (cellLine k n) s at f r
-unfolding cellLine line
-cell-line k {n = n} met wide high width height type count =
+    → Put (decimal n ++ 10 ∷ []) c o f r → Put (cell-line k n) s at f r
+unfolding cell-line line
+cell-line-is k {n = n} met wide high width height type count =
     rw (ne-eqb n 0 met, ← wide, ← high) (simp append-assoc at (put-then width (put-then height (put-then type count))))
 
 -- ---- the lines of the cells
 
 -- a side has two digits at most, and so has a type
-pub cell-short : (k n : ℕ) → k < cells → n < 10 ^ 20 → length (cellLine k n) ≤ 30
-unfolding cellLine line
+pub cell-short : (k n : ℕ) → k < cells → n < 10 ^ 20 → length (cell-line k n) ≤ 30
+unfolding cell-line line
 cell-short k n h small = go (eqb n 0)
   where
     side : (r : ℕ) → r ≤ 3 → 4 * 2 ^ r < 100
@@ -275,11 +268,6 @@ cell-short k n h small = go (eqb n 0)
           decimal-short 20 n (omega arith) small,
         ))
 
-joined-short : (n : ℕ) (f : ℕ → List ℕ) → ((k : ℕ) → k < n → length (f k) ≤ 30) → length (joined (tab n f)) ≤ 30 * n
-joined-short zero f h = omega arith
-joined-short (suc n) f h =
-    rw length-append (omega (arith, h 0 (omega arith), joined-short n (λ i. f (suc i)) (λ k l. h (suc k) (omega arith))))
-
 joined-more : (n : ℕ) (f : ℕ → List ℕ) → joined (tab (suc n) f) ≡ joined (tab n f) ++ f n
 joined-more zero f = append-nil (f 0)
 joined-more (suc n) f = ap (λ l. f 0 ++ l) (joined-more n (λ i. f (suc i))) ∙ sym (append-assoc (f 0) (joined (tab n (λ i. f (suc i)))) (f (suc n)))
@@ -287,53 +275,39 @@ joined-more (suc n) f = ap (λ l. f 0 ++ l) (joined-more n (λ i. f (suc i))) �
 module _ (s out₀ : List ℕ) (at : ℕ) where
   -- the lines of the first k cells are put, and the others have room
   pub record Listing (out : List ℕ) (p k : ℕ) : Type 0 where
-    pub lines : Put (cellLines s k) out₀ at out p
+    pub lines : Put (cell-lines s k) out₀ at out p
     pub room : p + 30 * (272 - k) ≤ length out
     pub count : k ≤ 272
 
   pub begin-cells : at + 8160 ≤ length out₀ → Listing out₀ at 0
-  unfolding cellLines
+  unfolding cell-lines
   begin-cells h = record { lines = record { elements = refl; place = omega arith; room = omega arith }; room = omega arith; count = omega arith }
 
   pub next-cell : {out out′ : List ℕ} {p r k : ℕ} → Listing out p k → k < 272 → getD s (4 + k) 0 < 10 ^ 20
-      → Put (cellLine k (getD s (4 + k) 0)) out p out′ r → Listing out′ r (k + 1)
-  unfolding cellLines
+      → Put (cell-line k (getD s (4 + k) 0)) out p out′ r → Listing out′ r (k + 1)
+  unfolding cell-lines
   next-cell {k = k} l h small w = record {
-    lines = rw (add-one k, joined-more k (λ k. cellLine k (getD s (4 + k) 0))) (put-then (l .lines) w);
+    lines = rw (add-one k, joined-more k (λ k. cell-line k (getD s (4 + k) 0))) (put-then (l .lines) w);
     room = leaves 30 (30 * (272 - (k + 1))) (cell-short k _ h small) w (omega (arith, l .room));
     count = omega arith;
   }
 
-  pub finish-cells : {out : List ℕ} {p k : ℕ} → Listing out p k → 272 ≤ k → Put (cellLines s cells) out₀ at out p
-  finish-cells {out} {p} {k} l h = subst (λ (n : ℕ). Put (cellLines s n) out₀ at out p) (omega (arith, l .count)) (l .lines)
+  pub finish-cells : {out : List ℕ} {p k : ℕ} → Listing out p k → 272 ≤ k → Put (cell-lines s cells) out₀ at out p
+  finish-cells {out} {p} {k} l h = subst (λ (n : ℕ). Put (cell-lines s n) out₀ at out p) (omega (arith, l .count)) (l .lines)
 
 -- ---- the report
 
-cell-is : (t : Totals) (k : ℕ) → k < cells → getD (sumsOf t) (4 + k) 0 ≡ in-cell t k
-unfolding sumsOf
+cell-is : (t : Totals) (k : ℕ) → k < cells → getD (sums-of t) (4 + k) 0 ≡ in-cell t k
+unfolding sums-of
 cell-is t k h = rw (past-four k) (tab-at cells (in-cell t) 0 k h)
 
-cells-are : (t : Totals) → cellLines (sumsOf t) cells ≡ joined (tab cells (λ k. cellLine k (in-cell t k)))
-unfolding cellLines
-cells-are t = ap joined (tab-ext cells _ _ (λ k h. ap (cellLine k) (cell-is t k h)))
+cells-are : (t : Totals) → cell-lines (sums-of t) cells ≡ joined (tab cells (λ k. cell-line k (in-cell t k)))
+unfolding cell-lines
+cells-are t = ap joined (tab-ext cells _ _ (λ k h. ap (cell-line k) (cell-is t k h)))
 
 -- the report as the numbers have it
-pub report-by : {s : List ℕ} (t : Totals) → s ≡ sumsOf t → report t ≡ headed (getD s 0 0) (getD s 1 0) (getD s 2 0) (getD s 3 0) (cellLines s cells)
-unfolding sumsOf report
+pub report-by : {s : List ℕ} (t : Totals) → s ≡ sums-of t → report t ≡ headed (getD s 0 0) (getD s 1 0) (getD s 2 0) (getD s 3 0) (cell-lines s cells)
+unfolding sums-of report
 report-by t is =
-    sym (ap (λ (s : List ℕ). headed (getD s 0 0) (getD s 1 0) (getD s 2 0) (getD s 3 0) (cellLines s cells)) is
+    sym (ap (λ (s : List ℕ). headed (getD s 0 0) (getD s 1 0) (getD s 2 0) (getD s 3 0) (cell-lines s cells)) is
     ∙ ap (headed (t .records) (t .marked) (t .change) (t .largest)) (cells-are t))
-
-headed-short : (r m c l : ℕ) (others : List ℕ) (k : ℕ) → r < 10 ^ 20 → m < 10 ^ 20 → c < 10 ^ 20 → l < 10 ^ 20 → length others ≤ k
-    → length (headed r m c l others) ≤ 114 + k
-headed-short r m c l others k p q s t h =
-    simp length-append
-    (omega (arith, total-short word-records r p, total-short word-marked m q, total-short word-change c s, total-short word-largest l t))
-
--- four lines of at most 29, 28, 28 and 29 bytes, and 272 of at most 30: less than a record's room in the output buffer, 10265
-pub report-short : (t : Totals) → t .records < 10 ^ 20 → t .marked < 10 ^ 20 → t .change < 10 ^ 20 → t .largest < 10 ^ 20
-    → ((k : ℕ) → k < cells → in-cell t k < 10 ^ 20) → length (report t) ≤ 8274
-unfolding report
-report-short t p q s l small =
-    headed-short (t .records) (t .marked) (t .change) (t .largest) (joined (tab cells (λ k. cellLine k (in-cell t k)))) 8160 p q s l
-    (joined-short cells (λ k. cellLine k (in-cell t k)) (λ k h. cell-short k (in-cell t k) h (small k h)))

@@ -1,16 +1,19 @@
 -- What the inner functions of src/lib.rt ask and give.
 use mathlib.Core.Path.{_≡_}
-use mathlib.Core.List.{List}
-use Prim.Native.Nat.{ℕ, _+_, _*_, _^_, _≤_, _<_}
-use lib.ListN.{getD}
+use mathlib.Core.List.{List, [], _∷_, _++_}
+use Prim.Native.Nat.{ℕ, _+_, _*_, _^_, _≤_, _<_, _-_}
+use lib.ListN.{getD, length}
 use Rattle.whole.specs.Lists.{tab}
-use Rattle.tally.specs.Totals.{sum, greatest, cells, cell-w, cell-h, cell-type, cellLine, joined}
+use Rattle.tally.specs.Totals.{sum, greatest, cells, cell-w, cell-h, cell-type, cell-line, joined, Tally, Totals, in-cell, moves, totals}
 use Rattle.tally.specs.declared.Moved.{Moved}
+use mathlib.Core.Bool.{Bool, true, _&&_}
+use lib.Dec.{eqb, ltb}
+use Rattle.levels.specs.Sides.{len, side}
 
 -- the lines of the first n cells, as the numbers s have their counts
-unfoldable pub cellLines : List ℕ → ℕ → List ℕ
-unfolding cellLine
-cellLines s n = joined (tab n (λ k. cellLine k (getD s (4 + k) 0)))
+unfoldable pub cell-lines : List ℕ → ℕ → List ℕ
+unfolding cell-line
+cell-lines s n = joined (tab n (λ k. cell-line k (getD s (4 + k) 0)))
 
 -- side number r of the four
 pub record Rank (n r : ℕ) : Type 0 where
@@ -29,3 +32,49 @@ pub record Measured (ds : List ℕ) (r : Moved) : Type 0 where
   pub sum-is : r .sum ≡ sum (λ d. d) ds
   pub largest-is : r .largest ≡ greatest (λ d. d) ds
   pub small : r .sum ≤ 67107840
+
+-- the totals as numbers: "records", "marked", "change", "largest", and the count of each cell
+unfoldable pub sums-of : Totals → List ℕ
+sums-of t = t .records ∷ t .marked ∷ t .change ∷ t .largest ∷ tab cells (in-cell t)
+
+-- A record that was done can be counted: its sides are lengths of a pass, and its type is one of the seventeen.
+pub record Countable (w h txtp : ℕ) : Type 0 where
+  pub wide : len (side w) ≡ w
+  pub high : len (side h) ≡ h
+  pub type : txtp ≤ 16
+
+-- pixels before and after: as many, and no more than the largest block has
+pub record Paired (before after : List ℕ) : Type 0 where
+  pub alike : length before ≡ length after
+  pub few : length before ≤ 1024
+
+-- How large the numbers are for the records that they count. With 4294967295 records at most no sum of them wraps.
+pub record Kept (sums : List ℕ) : Type 0 where
+  pub size : length sums ≡ 276
+  pub marked : getD sums 1 0 ≤ getD sums 0 0
+  pub change : getD sums 2 0 ≤ getD sums 0 0 * 67107840
+  pub counts : (k : ℕ) → k < cells → getD sums (4 + k) 0 ≤ getD sums 0 0
+
+-- A record's distances: 1024 at most, of 65535 at most
+pub record Modest (t : Tally) : Type 0 where
+  pub few : length (moves t) ≤ 1024
+  pub small : (i : ℕ) → getD (moves t) i 0 ≤ 65535
+
+-- What counting one record more asks of the numbers, which a caller can test: no sum of it wraps.
+pub record Sane (sums : List ℕ) : Type 0 where
+  pub size : length sums ≡ 276
+  pub small : (k : ℕ) → k < 276 → getD sums k 0 < 9223372036854775808
+
+-- the test: all numbers are below m
+abbrev pub every-below : ℕ → List ℕ → Bool
+every-below m [] = true
+every-below m (x ∷ xs) = ltb x m && every-below m xs
+
+unfoldable pub sane : List ℕ → Bool
+sane s = eqb (length s) 276 && every-below 9223372036854775808 s
+
+-- one record more is counted
+pub record Added (entry exit : List ℕ) (t : Tally) : Type 0 where
+  pub totals-are : (ts : List Tally) → entry ≡ sums-of (totals ts) → exit ≡ sums-of (totals (ts ++ (t ∷ [])))
+  pub kept : Kept entry → Kept exit
+  pub records-are : getD exit 0 0 ≡ getD entry 0 0 + 1

@@ -1,13 +1,9 @@
--- Totals over a file's records (E7): "Each total is defined from the list of records." What the code keeps of them, and what it needs to know to count
--- a record, stands at the end.
-use mathlib.Core.Path.{_≡_}
-use mathlib.Core.Bool.{Bool, true, cond, _&&_}
+-- Totals over a file's records (E7): "Each total is defined from the list of records."
+use mathlib.Core.Bool.{Bool, cond, _&&_}
 use mathlib.Core.List.{List, [], _∷_, _++_}
-use Prim.Native.Nat.{ℕ, _+_, _-_, _*_, _/_, _%_, _^_, _≤_, _<_, max}
-use lib.Dec.{eqb, ltb}
-use lib.ListN.{length, getD}
+use Prim.Native.Nat.{ℕ, _+_, _-_, _*_, _/_, _%_, _^_, max}
+use lib.Dec.{eqb}
 use Rattle.whole.specs.Lists.{tab}
-use Rattle.av1.specs.Sides.{len, side}
 use Rattle.itx.specs.Calls.{Outcome}
 use Rattle.blockfile.specs.Record.{Block}
 use Rattle.text.specs.Text.{decimal, line}
@@ -101,14 +97,18 @@ cell-h k = 4 * 2 ^ (k / 17 % 4)
 abbrev pub cell-type : ℕ → ℕ
 cell-type k = k % 17
 
+-- all of them, in order
+abbrev pub all-cells : List ℕ
+all-cells = tab cells (λ k. k)
+
 -- the count of cell k's combination
 abbrev pub in-cell : Totals → ℕ → ℕ
 in-cell t k = t .met (cell-w k) (cell-h k) (cell-type k)
 
 -- "lines of w, h, type and count for each combination met": none for one that was not
-unfoldable pub cellLine : ℕ → ℕ → List ℕ
+unfoldable pub cell-line : ℕ → ℕ → List ℕ
 unfolding line decimal
-cellLine k n = cond (eqb n 0) [] (line (decimal (cell-w k) ∷ decimal (cell-h k) ∷ decimal (cell-type k) ∷ decimal n ∷ []))
+cell-line k n = cond (eqb n 0) [] (line (decimal (cell-w k) ∷ decimal (cell-h k) ∷ decimal (cell-type k) ∷ decimal n ∷ []))
 
 -- "one to a line": line after line
 abbrev pub joined : List (List ℕ) → List ℕ
@@ -138,8 +138,8 @@ headed records marked change largest others =
 
 -- "Then come lines of w, h, type and count for each combination met"
 unfoldable pub report : Totals → List ℕ
-unfolding line decimal cellLine
-report t = headed (t .records) (t .marked) (t .change) (t .largest) (joined (tab cells (λ k. cellLine k (in-cell t k))))
+unfolding line decimal cell-line
+report t = headed (t .records) (t .marked) (t .change) (t .largest) (joined (tab cells (λ k. cell-line k (in-cell t k))))
 
 -- ---- what is counted
 
@@ -149,51 +149,3 @@ tallied w h txtp mark before after = record { w = w; h = h; txtp = txtp; mark = 
 -- a record that was done: its pixels as the file has them, and as the call leaves them
 abbrev pub tally : Block → Outcome → Tally
 tally b o = tallied (b .head .w) (b .head .h) (b .head .txtp) (o .answer .mark) (b .pixels) (o .pixels)
-
--- ---- what the code keeps: 276 numbers of 64 bits
-
--- the totals as numbers: "records", "marked", "change", "largest", and the count of each cell
-unfoldable pub sumsOf : Totals → List ℕ
-sumsOf t = t .records ∷ t .marked ∷ t .change ∷ t .largest ∷ tab cells (in-cell t)
-
--- A record that was done can be counted: its sides are lengths of a pass, and its type is one of the seventeen.
-pub record Countable (w h txtp : ℕ) : Type 0 where
-  pub wide : len (side w) ≡ w
-  pub high : len (side h) ≡ h
-  pub type : txtp ≤ 16
-
--- pixels before and after: as many, and no more than the largest block has
-pub record Paired (before after : List ℕ) : Type 0 where
-  pub alike : length before ≡ length after
-  pub few : length before ≤ 1024
-
--- How large the numbers are for the records that they count. With 4294967295 records at most no sum of them wraps.
-pub record Kept (sums : List ℕ) : Type 0 where
-  pub size : length sums ≡ 276
-  pub marked : getD sums 1 0 ≤ getD sums 0 0
-  pub change : getD sums 2 0 ≤ getD sums 0 0 * 67107840
-  pub counts : (k : ℕ) → k < cells → getD sums (4 + k) 0 ≤ getD sums 0 0
-
--- A record's distances: 1024 at most, of 65535 at most
-pub record Modest (t : Tally) : Type 0 where
-  pub few : length (moves t) ≤ 1024
-  pub small : (i : ℕ) → getD (moves t) i 0 ≤ 65535
-
--- What counting one record more asks of the numbers, which a caller can test: no sum of it wraps.
-pub record Sane (sums : List ℕ) : Type 0 where
-  pub size : length sums ≡ 276
-  pub small : (k : ℕ) → k < 276 → getD sums k 0 < 9223372036854775808
-
--- the test: all numbers are below m
-abbrev pub allBelow : ℕ → List ℕ → Bool
-allBelow m [] = true
-allBelow m (x ∷ xs) = ltb x m && allBelow m xs
-
-unfoldable pub sane : List ℕ → Bool
-sane s = eqb (length s) 276 && allBelow 9223372036854775808 s
-
--- one record more is counted
-pub record Added (entry exit : List ℕ) (t : Tally) : Type 0 where
-  pub totals-are : (ts : List Tally) → entry ≡ sumsOf (totals ts) → exit ≡ sumsOf (totals (ts ++ (t ∷ [])))
-  pub kept : Kept entry → Kept exit
-  pub records-are : getD exit 0 0 ≡ getD entry 0 0 + 1

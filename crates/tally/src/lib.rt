@@ -3,13 +3,14 @@ ghost use mathlib.Core.Path.{_≡_};
 ghost use mathlib.Core.List.{[], _∷_, _++_};
 ghost use Prim.Native.Nat.{_+_, _*_, _^_, _≤_, _<_, max};
 ghost use lib.ListN.{length, take};
-ghost use Rattle.av1.specs.Sides.{len, side};
-ghost use Rattle.blockfile.specs.Answer.{Put};
+ghost use Rattle.levels.specs.Sides.{len, side};
+ghost use Rattle.blockfile.specs.Inner.{Put};
 ghost use Rattle.text.specs.Text.{decimal, line};
 ghost use Rattle.tally.specs.Totals as Totals;
-ghost use Rattle.tally.specs.Totals.{Added, Countable, Paired, Sane};
-ghost use Rattle.tally.specs.Totals.{cellLine, cells, distances, one-if, report, sane, sumsOf, tallied};
-ghost use Rattle.tally.specs.Inner.{CellOf, Measured, Rank, cellLines};
+ghost use Rattle.tally.specs.Inner.{Added, Countable, Paired, Sane};
+ghost use Rattle.tally.specs.Totals.{cell-line, cells, distances, one-if, report, tallied};
+ghost use Rattle.tally.specs.Inner.{sane, sums-of};
+ghost use Rattle.tally.specs.Inner.{CellOf, Measured, Rank, cell-lines};
 use text::put_bytes;
 use text::put_decimal;
 
@@ -167,7 +168,7 @@ fn side_of(r: usize) -> u64
 // Puts the line of cell k, whose count is n.
 fn put_cell(out: &mut [u8], at: usize, k: usize, n: u64) -> usize
     requires { ⌜ (k < cells) × (at + 30 ≤ length (now out)) ⌝ }
-    ensures { λ r. ⌜ Put (cellLine k n) (now (out .entry)) at (now (out .exit)) r ⌝ }
+    ensures { λ r. ⌜ Put (cell-line k n) (now (out .entry)) at (now (out .exit)) r ⌝ }
 {
     if n == 0 {
         return at;
@@ -181,7 +182,7 @@ fn put_cell(out: &mut [u8], at: usize, k: usize, n: u64) -> usize
 // Puts the lines of all cells.
 fn put_cells(sums: &[u64], out: &mut [u8], at: usize) -> usize
     requires { ⌜ (length (now sums) ≡ 276) × (at + 8160 ≤ length (now out)) ⌝ }
-    ensures { λ r. ⌜ Put (cellLines (now (sums .entry)) cells) (now (out .entry)) at (now (out .exit)) r ⌝ }
+    ensures { λ r. ⌜ Put (cell-lines (now (sums .entry)) cells) (now (out .entry)) at (now (out .exit)) r ⌝ }
 {
     let mut p = at;
     let mut k = 0;
@@ -195,7 +196,7 @@ fn put_cells(sums: &[u64], out: &mut [u8], at: usize) -> usize
 // Puts the report: four lines of at most 29 bytes, and 272 lines of at most 30.
 pub fn put_report(sums: &[u64], out: &mut [u8], at: usize) -> usize
     requires { ⌜ (length (now sums) ≡ 276) × (at + 8274 ≤ length (now out)) ⌝ }
-    ensures { λ r. ⌜ ((t : Totals.Totals) → now (sums .entry) ≡ sumsOf t → Put (report t) (now (out .entry)) at (now (out .exit)) r) ⌝ }
+    ensures { λ r. ⌜ ((t : Totals.Totals) → now (sums .entry) ≡ sums-of t → Put (report t) (now (out .entry)) at (now (out .exit)) r) ⌝ }
 {
     let a = put_total(out, at, b"records", sums[0]);
     let b = put_total(out, a, b"marked", sums[1]);

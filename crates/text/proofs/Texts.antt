@@ -13,9 +13,9 @@ use lib.Seq.{take-suc}
 use borrow.Author.Tests.{lt-ltb, le-ltb, ltb-true, ltb-false}
 use mir.Syntax.{w32}
 use mir.Val.{SFits, toZ, ofZ}
-use Rattle.blockfile.specs.Answer.{Put}
+use Rattle.blockfile.specs.Inner.{Put}
 use Rattle.blockfile.proofs.Writing.{put-then, put-length}
-use Rattle.blockfile.proofs.Signs.{Negative, Natural}
+use Rattle.whole.proofs.Signs.{Negative, Natural}
 use Rattle.text.specs.Text.{digits, decimal, signed}
 
 -- ---- one digit, or one after the others
@@ -41,7 +41,8 @@ pub decimal-more : (n : ℕ) → 10 ≤ n → decimal n ≡ decimal (n / 10) ++ 
 unfolding decimal digits
 decimal-more zero h = absurd (omega arith)
 decimal-more (suc m) h =
-    rw (le-ltb (suc m) 10 h) (ap (λ (ds : List ℕ). ds ++ (48 + suc m % 10) ∷ []) (digits-enough m (suc m / 10) (suc m / 10) (omega arith) (omega arith)))
+    rw (le-ltb (suc m) 10 h)
+    (ap (λ (ds : List ℕ). ds ++ (48 + suc m % 10) ∷ []) (digits-enough m (suc m / 10) (suc m / 10) (omega arith) (omega arith)))
 
 pub decimal-length : (n : ℕ) → 10 ≤ n → length (decimal n) ≡ length (decimal (n / 10)) + 1
 decimal-length n h = ap length (decimal-more n h) ∙ length-append (decimal (n / 10)) _

@@ -30,6 +30,6 @@ abbrev pub refused : List ℕ
 refused = 114 ∷ 101 ∷ 102 ∷ 117 ∷ 115 ∷ 101 ∷ 100 ∷ []
 
 -- "one line, parted by single blanks: "refused", the record's number .. and the refusal's number" (E1)
-unfoldable pub refusedLine : ℕ → ℕ → List ℕ
+unfoldable pub refused-line : ℕ → ℕ → List ℕ
 unfolding line decimal
-refusedLine i k = line (refused ∷ decimal i ∷ decimal k ∷ [])
+refused-line i k = line (refused ∷ decimal i ∷ decimal k ∷ [])

@@ -1,8 +1,8 @@
 // Numbers and lines in ASCII, put into a slice.
 ghost use Prim.Native.Nat.{_+_, _≤_};
 ghost use lib.ListN.{length};
-ghost use Rattle.blockfile.specs.Answer.{Put};
-ghost use Rattle.text.specs.Text.{decimal, refusedLine, signed};
+ghost use Rattle.blockfile.specs.Inner.{Put};
+ghost use Rattle.text.specs.Text.{decimal, refused-line, signed};
 
 // Puts n in decimal digits at the place `at`, and answers the place after it.
 pub fn put_decimal(out: &mut [u8], at: usize, n: u64) -> usize
@@ -46,7 +46,7 @@ pub fn put_bytes(out: &mut [u8], at: usize, bytes: &[u8]) -> usize
 // Puts E1's line of a refusal at the place `at`, and answers the place after it.
 pub fn refused_line(out: &mut [u8], at: usize, record: u64, refusal: u8) -> usize
     requires { ⌜ at + 33 ≤ length (now out) ⌝ }
-    ensures { λ r. ⌜ Put (refusedLine «record» refusal) (now (out .entry)) at (now (out .exit)) r ⌝ }
+    ensures { λ r. ⌜ Put (refused-line «record» refusal) (now (out .entry)) at (now (out .exit)) r ⌝ }
 {
     let a = put_bytes(out, at, b"refused ");
     let b = put_decimal(out, a, record);

@@ -56,9 +56,7 @@ module _ {A : Type 0} where
   pub clear : (ls : List (Line A)) (a z : A) → judged ls a ≡ accept z → Clear ls a × (a ≡ z)
   clear [] a z e = (tt, same-accept a z e)
   clear (l ∷ ls) a z e =
-      let o = open-at (l .1 a) (l .0) (judged ls a) z e in
-      let c = clear ls a z (o .1) in
-      ((o .0, c .0), c .1)
+      let o = open-at (l .1 a) (l .0) (judged ls a) z e in let c = clear ls a z (o .1) in ((o .0, c .0), c .1)
 
   pub cleared : (ls : List (Line A)) (a : A) → Clear ls a → judged ls a ≡ accept a
   cleared [] a c = refl
@@ -83,12 +81,12 @@ module _ {A : Type 0} where
           one c c′ (some i) e = refl
           one c c′ none e = e
 
-  pub further : {k k′ : Check A} (ls ms : List (Line A)) (k₀ : Check A) → k ≡ then k₀ (judged ls) → k′ ≡ then k (judged ms) → k′ ≡ then k₀ (judged (ls ++ ms))
+  pub further : {k k′ : Check A} (ls ms : List (Line A)) (k₀ : Check A) → k ≡ then k₀ (judged ls) → k′ ≡ then k (judged ms)
+      → k′ ≡ then k₀ (judged (ls ++ ms))
   further ls ms k₀ d e = e ∙ ap (λ (k : Check A). then k (judged ms)) d ∙ joined k₀ ls ms
 
   -- what an acceptance tells
   pub taken : (k : Check A) (ls : List (Line A)) (z : A) → then k (judged ls) ≡ accept z → (k ≡ accept z) × Clear ls z
   taken k ls z e =
-      let f = open-then k (judged ls) z e in
-      let c = clear ls (f .0) z (f .2) in
+      let f = open-then k (judged ls) z e in let c = clear ls (f .0) z (f .2) in
       (f .1 ∙ ap accept (c .1), subst (Clear ls) (c .1) (c .0))

@@ -1,6 +1,6 @@
 -- What a test of two signed numbers tells, and a clip by its tests.
 use mathlib.Core.Path.{_≡_, refl, sym, ap, ap₂, _∙_}
-use mathlib.Core.Bool.{Bool, true, false, cond, _||_}
+use mathlib.Core.Bool.{Bool, true, false, cond, _&&_, _||_}
 use Prim.Native.Nat.{ℕ, _+_, _≤_}
 use native.Mathlib.Omega.{arith}
 use lib.IntN.{ℤ, pos, negsuc, natAbs}
@@ -40,6 +40,10 @@ sel-abs false false v lo hi e f b c = between lo v hi (parts-nlt v lo e) (parts-
 pub clip-abs : (v lo hi : ℤ) {n : ℕ} → natAbs lo ≤ n → natAbs hi ≤ n → natAbs (clip v lo hi) ≤ n
 unfolding clip
 clip-abs v lo hi b c = sel-abs (ltZ v lo) (ltZ hi v) v lo hi refl refl b c
+
+pub and-true : (s t : Bool) → s && t ≡ true → (s ≡ true) × (t ≡ true)
+and-true true t e = (refl, e)
+and-true false t e = (e, elim t [ true ↦ refl | false ↦ e ])
 
 pub or-false : (a b : Bool) → a || b ≡ false → (a ≡ false) × (b ≡ false)
 or-false true b e = (e, elim b [ true ↦ e | false ↦ refl ])

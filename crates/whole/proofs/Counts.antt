@@ -80,20 +80,23 @@ any-snoc (suc n) f = ap (λ x. f zero || x) (any-snoc n (λ i. f (suc i))) ∙ s
 pub first-ext : (n : ℕ) (f g : ℕ → Bool) → ((i : ℕ) → i < n → f i ≡ g i) → first n f ≡ first n g
 first-ext zero f g e = refl
 first-ext (suc n) f g e =
-    ap₂ (λ (b : Bool) (o : Option ℕ). cond b (some zero) (one-more o)) (e zero (omega arith)) (first-ext n (λ i. f (suc i)) (λ i. g (suc i)) (λ i h. e (suc i) (omega arith)))
+    ap₂ (λ (b : Bool) (o : Option ℕ). cond b (some zero) (one-more o)) (e zero (omega arith))
+    (first-ext n (λ i. f (suc i)) (λ i. g (suc i)) (λ i h. e (suc i) (omega arith)))
 
 -- what is nowhere is not found
 pub none-first : (n : ℕ) (f : ℕ → Bool) → ((i : ℕ) → i < n → f i ≡ false) → first n f ≡ none
 none-first zero f e = refl
 none-first (suc n) f e =
-    ap₂ (λ (x : Bool) (y : Option ℕ). cond x (some zero) (one-more y)) (e zero (omega arith)) (none-first n (λ i. f (suc i)) (λ i h. e (suc i) (omega arith)))
+    ap₂ (λ (x : Bool) (y : Option ℕ). cond x (some zero) (one-more y)) (e zero (omega arith))
+    (none-first n (λ i. f (suc i)) (λ i h. e (suc i) (omega arith)))
 
 -- nothing more is found from r to n
 pub first-upto : (r n : ℕ) (f : ℕ → Bool) → r ≤ n → ((i : ℕ) → r ≤ i → i < n → f i ≡ false) → first r f ≡ first n f
 first-upto zero n f h e = sym (none-first n f (λ i l. e i (omega arith) l))
 first-upto (suc r) zero f h e = let x : ⊥ = omega arith in absurd x
 first-upto (suc r) (suc n) f h e =
-    ap (λ (o : Option ℕ). cond (f zero) (some zero) (one-more o)) (first-upto r n (λ i. f (suc i)) (omega arith) (λ i k l. e (suc i) (omega arith) (omega arith)))
+    ap (λ (o : Option ℕ). cond (f zero) (some zero) (one-more o))
+    (first-upto r n (λ i. f (suc i)) (omega arith) (λ i k l. e (suc i) (omega arith) (omega arith)))
 
 -- and what was not found is nowhere
 more-none : (o : Option ℕ) → one-more o ≡ none → o ≡ none
@@ -108,14 +111,16 @@ pub first-none : (n : ℕ) (f : ℕ → Bool) → first n f ≡ none → (i : �
 first-none zero f e i h = let x : ⊥ = omega arith in absurd x
 first-none (suc n) f e zero h = cond-none (f zero) zero (one-more (first n (λ i. f (suc i)))) e .0
 first-none (suc n) f e (suc i) h =
-    first-none n (λ i. f (suc i)) (more-none (first n (λ i. f (suc i))) (cond-none (f zero) zero (one-more (first n (λ i. f (suc i)))) e .1)) i (omega arith)
+    first-none n (λ i. f (suc i))
+    (more-none (first n (λ i. f (suc i))) (cond-none (f zero) zero (one-more (first n (λ i. f (suc i)))) e .1)) i (omega arith)
 
 -- what holds at i and nowhere before is found at i
 pub first-found : (n : ℕ) (f : ℕ → Bool) (i : ℕ) → i < n → f i ≡ true → ((j : ℕ) → j < i → f j ≡ false) → first n f ≡ some i
 first-found zero f i h t e = let x : ⊥ = omega arith in absurd x
 first-found (suc n) f zero h t e = ap (λ (b : Bool). cond b (some zero) (one-more (first n (λ j. f (suc j))))) t
 first-found (suc n) f (suc i) h t e =
-    ap₂ (λ (b : Bool) (o : Option ℕ). cond b (some zero) (one-more o)) (e zero (omega arith)) (first-found n (λ j. f (suc j)) i (omega arith) t (λ j l. e (suc j) (omega arith)))
+    ap₂ (λ (b : Bool) (o : Option ℕ). cond b (some zero) (one-more o)) (e zero (omega arith))
+    (first-found n (λ j. f (suc j)) i (omega arith) t (λ j l. e (suc j) (omega arith)))
 
 -- ---- the last, or one before
 pub last-or-less : (i k : ℕ) (P : ℕ → Type 0) → i < suc k → P k → (i < k → P i) → P i

@@ -5,7 +5,7 @@ use native.Mathlib.Nat.{div-mul-le-self, lt-div-mul-add, lt-of-mul-lt-mul-right}
 use native.Mathlib.Omega.{arith}
 use lib.IntN.{ℤ, pos, negsuc, negℤ, _+ℤ_, _-ℤ_, _*ℤ_}
 use lib.Signed.{shrZ}
-use Rattle.whole.proofs.Parts.{pp, nn, Rep, rep-self, rep-add, rep-sub, rep-mul, rep-eq}
+use Rattle.whole.proofs.Parts.{pp, nn, rep-self, rep-add, rep-mul, rep-eq}
 
 -- q is z by m, rounded down
 pub record Floor (z : ℤ) (m : ℕ) (q : ℤ) : Type 0 where
@@ -25,22 +25,7 @@ floor-one z m q r f g = rep-eq (rep-self q) (rep-self r) (omega (arith, less z m
 -- a multiple of m moves out of the shift
 pub shr-add : (z b : ℤ) (m : ℕ) → 0 < m → shrZ (z +ℤ b *ℤ pos m) m ≡ shrZ z m +ℤ b
 shr-add z b m h =
-    let s = z +ℤ b *ℤ pos m in
-    let q = shrZ z m in
-    let f = shr-floor z m h in
-    let rs = rep-add (rep-self z) (rep-mul (rep-self b) (rep-self (pos m))) in
-    let rq = rep-add (rep-self q) (rep-self b) in
-    let eq = ap (λ (n : ℕ). n * m) (rq .rep) in
-    floor-one s m (shrZ s m) (q +ℤ b) (shr-floor s m h)
-    (record { low = omega (arith, f .low, rs .rep, eq); high = omega (arith, f .high, rs .rep, eq) })
-
-pub shr-sub : (z b : ℤ) (m : ℕ) → 0 < m → shrZ (z -ℤ b *ℤ pos m) m ≡ shrZ z m -ℤ b
-shr-sub z b m h =
-    let s = z -ℤ b *ℤ pos m in
-    let q = shrZ z m in
-    let f = shr-floor z m h in
-    let rs = rep-sub (rep-self z) (rep-mul (rep-self b) (rep-self (pos m))) in
-    let rq = rep-sub (rep-self q) (rep-self b) in
-    let eq = ap (λ (n : ℕ). n * m) (rq .rep) in
-    floor-one s m (shrZ s m) (q -ℤ b) (shr-floor s m h)
+    let s = z +ℤ b *ℤ pos m in let q = shrZ z m in let f = shr-floor z m h in
+    let rs = rep-add (rep-self z) (rep-mul (rep-self b) (rep-self (pos m))) in let rq = rep-add (rep-self q) (rep-self b) in
+    let eq = ap (λ (n : ℕ). n * m) (rq .rep) in floor-one s m (shrZ s m) (q +ℤ b) (shr-floor s m h)
     (record { low = omega (arith, f .low, rs .rep, eq); high = omega (arith, f .high, rs .rep, eq) })

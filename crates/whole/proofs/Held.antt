@@ -20,11 +20,6 @@ to2 P {x} {y} f g p = to1 f (λ (u : ℤ). P u (toZ w32 (ofZ w32 y))) (to1 g (λ
 pub from2 : (P : ℤ → ℤ → Type 0) {x y : ℤ} → SFits w32 x → SFits w32 y → P (toZ w32 (ofZ w32 x)) (toZ w32 (ofZ w32 y)) → P x y
 from2 P {x} {y} f g p = subst (λ (u : ℤ). P u y) (toZ-ofZ w32 x f) (subst (P (toZ w32 (ofZ w32 x))) (toZ-ofZ w32 y g) p)
 
-pub to4 : (P : ℤ → ℤ → ℤ → ℤ → Type 0) {x y z u : ℤ} → SFits w32 x → SFits w32 y → SFits w32 z → SFits w32 u → P x y z u
-    → P (toZ w32 (ofZ w32 x)) (toZ w32 (ofZ w32 y)) (toZ w32 (ofZ w32 z)) (toZ w32 (ofZ w32 u))
-to4 P {x} {y} {z} {u} f g h k p =
-    to2 (λ (a b : ℤ). P a b (toZ w32 (ofZ w32 z)) (toZ w32 (ofZ w32 u))) f g (to2 (λ (a b : ℤ). P x y a b) h k p)
-
 -- a test of the bits of two numbers that fit is a test of the numbers
 pub same-is : (x y : ℤ) → T (same x y) → x ≡ y
 same-is (pos a) (pos b) t = ap pos (eqb→eq a b t)

@@ -131,9 +131,7 @@ module _ (ρ : List ℤ) (β : List ℕ) (h : Within ρ β) where
   raw-is (a ≫ k) w t =
       let q = and-yes (ltb (suc (bnd β a / 2 ^ k)) (2 ^ hbits w)) (ok β a w) t .1 in
       ap (λ (x : ℤ). shrZ x (2 ^ k)) (back a w q (raw-is a w q))
-  raw-is (from w′ a) w t =
-      let q = and-yes (ltb (bnd β a) (2 ^ hbits w)) (ok β a w′) t .1 in
-      back a w′ q (raw-is a w′ q)
+  raw-is (from w′ a) w t = let q = and-yes (ltb (bnd β a) (2 ^ hbits w)) (ok β a w′) t .1 in back a w′ q (raw-is a w′ q)
 
   -- an operation's need: its result fits
   pub need : (e : E) (w : Width) → T (ok β e w) → SFits w (raw ρ e w)
@@ -150,25 +148,25 @@ module _ (ρ : List ℤ) (β : List ℕ) (h : Within ρ β) where
 
 -- the positive and the negative part of an expression's value; a shift is not looked into
 abbrev mutual
-  pub evP : List ℤ → E → ℕ
-  evP ρ (var i) = pp (getD ρ i (pos 0))
-  evP ρ (lit z) = pp z
-  evP ρ (op plus a b) = evP ρ a + evP ρ b
-  evP ρ (op minus a b) = evP ρ a + evN ρ b
-  evP ρ (op times a b) = evP ρ a * evP ρ b + evN ρ a * evN ρ b
-  evP ρ (from w a) = evP ρ a
-  evP ρ (a ≫ k) = pp (shrZ (ev ρ a) (2 ^ k))
+  pub ev-p : List ℤ → E → ℕ
+  ev-p ρ (var i) = pp (getD ρ i (pos 0))
+  ev-p ρ (lit z) = pp z
+  ev-p ρ (op plus a b) = ev-p ρ a + ev-p ρ b
+  ev-p ρ (op minus a b) = ev-p ρ a + ev-n ρ b
+  ev-p ρ (op times a b) = ev-p ρ a * ev-p ρ b + ev-n ρ a * ev-n ρ b
+  ev-p ρ (from w a) = ev-p ρ a
+  ev-p ρ (a ≫ k) = pp (shrZ (ev ρ a) (2 ^ k))
 
-  pub evN : List ℤ → E → ℕ
-  evN ρ (var i) = nn (getD ρ i (pos 0))
-  evN ρ (lit z) = nn z
-  evN ρ (op plus a b) = evN ρ a + evN ρ b
-  evN ρ (op minus a b) = evN ρ a + evP ρ b
-  evN ρ (op times a b) = evP ρ a * evN ρ b + evN ρ a * evP ρ b
-  evN ρ (from w a) = evN ρ a
-  evN ρ (a ≫ k) = nn (shrZ (ev ρ a) (2 ^ k))
+  pub ev-n : List ℤ → E → ℕ
+  ev-n ρ (var i) = nn (getD ρ i (pos 0))
+  ev-n ρ (lit z) = nn z
+  ev-n ρ (op plus a b) = ev-n ρ a + ev-n ρ b
+  ev-n ρ (op minus a b) = ev-n ρ a + ev-p ρ b
+  ev-n ρ (op times a b) = ev-p ρ a * ev-n ρ b + ev-n ρ a * ev-p ρ b
+  ev-n ρ (from w a) = ev-n ρ a
+  ev-n ρ (a ≫ k) = nn (shrZ (ev ρ a) (2 ^ k))
 
-pub parts : (ρ : List ℤ) (e : E) → Rep (ev ρ e) (evP ρ e) (evN ρ e)
+pub parts : (ρ : List ℤ) (e : E) → Rep (ev ρ e) (ev-p ρ e) (ev-n ρ e)
 parts ρ (var i) = rep-self (getD ρ i (pos 0))
 parts ρ (lit z) = rep-self z
 parts ρ (op plus a b) = rep-add (parts ρ a) (parts ρ b)
@@ -178,5 +176,5 @@ parts ρ (from w a) = parts ρ a
 parts ρ (a ≫ k) = rep-self (shrZ (ev ρ a) (2 ^ k))
 
 -- `ring ρ a b (omega arith)`
-pub ring : (ρ : List ℤ) (a b : E) → evP ρ a + evN ρ b ≡ evP ρ b + evN ρ a → ev ρ a ≡ ev ρ b
+pub ring : (ρ : List ℤ) (a b : E) → ev-p ρ a + ev-n ρ b ≡ ev-p ρ b + ev-n ρ a → ev ρ a ≡ ev ρ b
 ring ρ a b e = rep-eq (parts ρ a) (parts ρ b) e

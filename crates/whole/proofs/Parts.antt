@@ -52,13 +52,13 @@ mul-parts (pos p) (negsuc q) = record { rep = omega (arith, rep-neg (rep-self (p
 mul-parts (negsuc p) (pos q) = record { rep = omega (arith, rep-neg (rep-self (pos (suc p * q)))) }
 mul-parts (negsuc p) (negsuc q) = record { rep = omega arith }
 
-cross : (P N Q M R S a b c d : ℕ) → P + b ≡ N + a → Q + d ≡ M + c → R + (P * M + N * Q) ≡ S + (P * Q + N * M) → R + (a * d + b * c) ≡ S + (a * c + b * d)
+cross : (P N Q M R S a b c d : ℕ) → P + b ≡ N + a → Q + d ≡ M + c → R + (P * M + N * Q) ≡ S + (P * Q + N * M)
+    → R + (a * d + b * c) ≡ S + (a * c + b * d)
 cross P N Q M R S a b c d h k r =
     let h1 : (P + b) * Q ≡ (N + a) * Q = ap (λ (n : ℕ). n * Q) h in
     let h2 : (P + b) * M ≡ (N + a) * M = ap (λ (n : ℕ). n * M) h in
     let k1 : a * (Q + d) ≡ a * (M + c) = ap (λ (n : ℕ). a * n) k in
-    let k2 : b * (Q + d) ≡ b * (M + c) = ap (λ (n : ℕ). b * n) k in
-    omega arith
+    let k2 : b * (Q + d) ≡ b * (M + c) = ap (λ (n : ℕ). b * n) k in omega arith
 
 pub rep-mul : {x y : ℤ} {a b c d : ℕ} → Rep x a b → Rep y c d → Rep (x *ℤ y) (a * c + b * d) (a * d + b * c)
 rep-mul {x} {y} {a} {b} {c} {d} h k =
@@ -87,12 +87,6 @@ parts-le (pos p) (negsuc q) h = absurd h
 parts-le (negsuc p) (pos q) h = omega arith
 parts-le (negsuc p) (negsuc q) h = omega (arith, leb→le q p h)
 
-pub lt-parts : (x y : ℤ) → pp x + nn y < pp y + nn x → T (ltZ x y)
-lt-parts (pos p) (pos q) h = lt→ltb p q (omega arith)
-lt-parts (pos p) (negsuc q) h = let f : ⊥ = omega arith in absurd f
-lt-parts (negsuc p) (pos q) h = tt
-lt-parts (negsuc p) (negsuc q) h = lt→ltb q p (omega arith)
-
 pub parts-lt : (x y : ℤ) → T (ltZ x y) → pp x + nn y < pp y + nn x
 parts-lt (pos p) (pos q) h = omega (arith, ltb→lt p q h)
 parts-lt (pos p) (negsuc q) h = absurd h
@@ -114,14 +108,3 @@ nlt-parts (negsuc p) (negsuc q) h = le-ltb q p (omega arith)
 pub abs-parts : (z : ℤ) → natAbs z ≡ pp z + nn z
 abs-parts (pos n) = omega arith
 abs-parts (negsuc n) = omega arith
-
--- the ring laws that lib.IntN lacks, each by `omega`
-pub *ℤ-distl : (a b c : ℤ) → a *ℤ (b +ℤ c) ≡ a *ℤ b +ℤ a *ℤ c
-*ℤ-distl a b c =
-    let ra = rep-self a in let rb = rep-self b in let rc = rep-self c in
-    rep-eq (rep-mul ra (rep-add rb rc)) (rep-add (rep-mul ra rb) (rep-mul ra rc)) (omega arith)
-
-pub *ℤ-assoc : (a b c : ℤ) → a *ℤ b *ℤ c ≡ a *ℤ (b *ℤ c)
-*ℤ-assoc a b c =
-    let ra = rep-self a in let rb = rep-self b in let rc = rep-self c in
-    rep-eq (rep-mul (rep-mul ra rb) rc) (rep-mul ra (rep-mul rb rc)) (omega arith)

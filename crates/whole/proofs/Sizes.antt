@@ -1,8 +1,10 @@
--- Bounds on a whole number's size, `natAbs z ≤ n`: what sums, differences, products and shifts do to them, and that a bound below 2 ^ 31 is what an i32 asks.
+-- Bounds on a whole number's size, `natAbs z ≤ n`: what sums, differences, products and shifts do to them, and that a bound below 2 ^ 31 is
+-- what an i32 asks.
 use mathlib.Core.Path.{_≡_, refl, sym, ap, ap₂, _∙_, subst}
 use mathlib.Core.Bool.{Bool, true, false, not, cond}
 use Prim.Native.Nat.{ℕ, zero, suc, _+_, _*_, _-_, _/_, _^_, _≤_, _<_, suc-le-suc}
-use native.Mathlib.Nat.{div-zero, le-div-iff-mul-le, zero-lt-suc, div-mul-le-self, le-trans, le-refl, mul-le-mul, div-le-self, lt-of-le-of-lt, div-le-of-le-mul, le-of-eq}
+use native.Mathlib.Nat.{div-zero, le-div-iff-mul-le, zero-lt-suc, div-mul-le-self, le-trans, le-refl, mul-le-mul, div-le-self}
+use native.Mathlib.Nat.{lt-of-le-of-lt, div-le-of-le-mul, le-of-eq}
 use native.Mathlib.Omega.{arith}
 use lib.IntN.{ℤ, pos, negsuc, negℤ, _+ℤ_, _-ℤ_, _*ℤ_, subℕ, natAbs}
 use lib.Signed.{mag, leZ, ltZ, shrZ}

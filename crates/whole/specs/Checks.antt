@@ -9,6 +9,11 @@ pub data Check (A : Type 0) : Type 0 where
   accept : A → Check A
   refuse : ℕ → ℕ → Check A
 
+-- whether it accepts
+abbrev pub accepted : {A : Type 0} → Check A → Bool
+accepted (accept a) = true
+accepted (refuse n i) = false
+
 -- "Each check opens the answer of the one before and goes on only if that was an acceptance."
 abbrev pub then : {A C : Type 0} → Check A → (A → Check C) → Check C
 then (accept a) f = f a

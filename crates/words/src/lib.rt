@@ -47,6 +47,17 @@ pub fn signed(w: u32) -> i32
     }
 }
 
+// The number that the low half of a word holds in two's complement.
+pub fn short(w: u32) -> i16 {
+    let n = w % 65536;
+    if n < 32768 {
+        n as i16
+    } else {
+        let m = 65535 - n;
+        -1 - (m as i16)
+    }
+}
+
 // The word that holds a number in two's complement.
 pub fn bits(v: i32) -> u32
     ensures { λ r. ⌜ r ≡ ofZ w32 v ⌝ }
@@ -66,6 +77,19 @@ pub fn load(b: &[u8], c: &mut [i32])
     for i in 0..c.len() {
         let v = signed(word_at(b, 4 * i));
         c[i] = v;
+    }
+}
+
+fn wide_pixel(p: u8) -> u16 {
+    p as u16
+}
+
+// The pixels of a slice at twice their width.
+pub fn widen(narrow: &[u8], wide: &mut [u16])
+    requires { ⌜ length (now narrow) ≡ length (now wide) ⌝ }
+{
+    for i in 0..narrow.len() {
+        wide[i] = wide_pixel(narrow[i]);
     }
 }
 

@@ -9,7 +9,7 @@ use mir.Syntax.{Width, w32, w64}
 use mir.Val.{SFits, toZ, ofZ}
 use Rattle.whole.specs.Numbers.{_>>_, round2}
 use Rattle.whole.proofs.Machine.{E, var, lit, _⊕_, _⊝_, _⊛_, _≫_, from, Within, ok, raw, ev, need, reads}
-use Rattle.av1.specs.Passes.{av1-adst4, turned}
+use Rattle.av1.specs.Passes.{av1-adst4, flipped}
 use Rattle.adst.proofs.adst4.Statement.{statement}
 use Rattle.adst.proofs.adst4.Tie as tie
 
@@ -65,47 +65,27 @@ returns : tie.Need-returns
 unfolding Rattle.av1.specs.Passes.av1-adst4 Rattle.whole.specs.Numbers.round2 Rattle.whole.specs.Numbers._>>_
 returns c =
     let b = c .before in
-    (λ i. is b (out (p ⊕ q ⊝ s)) tt i ∷ is b (out third) tt i ∷ is b (out (q ⊕ s)) tt i ∷ is b (out (p ⊕ s)) tt i ∷ []) ∙ ap (λ (t : Bool). turned t (outputs b)) (sym (c .if1 .taken))
+    (λ i. is b (out (p ⊕ q ⊝ s)) tt i ∷ is b (out third) tt i ∷ is b (out (q ⊕ s)) tt i ∷ is b (out (p ⊕ s)) tt i ∷ [])
+    ∙ ap (λ (t : Bool). flipped t (outputs b)) (sym (c .if1 .taken))
 
 returns-2 : tie.Need-returns-2
 unfolding Rattle.av1.specs.Passes.av1-adst4 Rattle.whole.specs.Numbers.round2 Rattle.whole.specs.Numbers._>>_
 returns-2 c =
     let b = c .before in
-    (λ i. is b (out (p ⊕ s)) tt i ∷ is b (out (q ⊕ s)) tt i ∷ is b (out third) tt i ∷ is b (out (p ⊕ q ⊝ s)) tt i ∷ []) ∙ ap (λ (t : Bool). turned t (outputs b)) (sym (c .if1 .left))
+    (λ i. is b (out (p ⊕ s)) tt i ∷ is b (out (q ⊕ s)) tt i ∷ is b (out third) tt i ∷ is b (out (p ⊕ q ⊝ s)) tt i ∷ [])
+    ∙ ap (λ (t : Bool). flipped t (outputs b)) (sym (c .if1 .left))
 
 pub adst4-spec : {M : Type 1} → statement M
 adst4-spec =
-    tie.close
-    (tie.spec
-    (λ c. fits c w64 (a0) tt)
-    (λ c. fits c w64 (b0) tt)
-    (λ c. fits c w64 (c0) tt)
-    (λ c. fits c w64 (d0) tt)
-    (λ c. fits c w64 (a0 ⊛ lit (pos 1321)) tt)
-    (λ c. fits c w64 (c0 ⊛ lit (pos 3803)) tt)
+    tie.close (tie.spec (λ c. fits c w64 (a0) tt) (λ c. fits c w64 (b0) tt) (λ c. fits c w64 (c0) tt)
+    (λ c. fits c w64 (d0) tt) (λ c. fits c w64 (a0 ⊛ lit (pos 1321)) tt) (λ c. fits c w64 (c0 ⊛ lit (pos 3803)) tt)
     (λ c. fits c w64 (a0 ⊛ lit (pos 1321) ⊕ c0 ⊛ lit (pos 3803)) tt)
-    (λ c. fits c w64 (d0 ⊛ lit (pos 2482)) tt)
-    (λ c. fits c w64 (p) tt)
-    (λ c. fits c w64 (a0 ⊛ lit (pos 2482)) tt)
-    (λ c. fits c w64 (c0 ⊛ lit (pos 1321)) tt)
-    (λ c. fits c w64 (a0 ⊛ lit (pos 2482) ⊝ c0 ⊛ lit (pos 1321)) tt)
-    (λ c. fits c w64 (d0 ⊛ lit (pos 3803)) tt)
-    (λ c. fits c w64 (q) tt)
-    (λ c. fits c w64 (s) tt)
-    (λ c. fits c w64 (p ⊕ s) tt)
-    (λ c. fits c w64 (p ⊕ s ⊕ lit (pos 2048)) tt)
-    (λ c. fits c w32 (out (p ⊕ s)) tt)
-    (λ c. fits c w64 (q ⊕ s) tt)
-    (λ c. fits c w64 (q ⊕ s ⊕ lit (pos 2048)) tt)
-    (λ c. fits c w32 (out (q ⊕ s)) tt)
-    (λ c. fits c w64 (a0 ⊝ c0) tt)
-    (λ c. fits c w64 (a0 ⊝ c0 ⊕ d0) tt)
-    (λ c. fits c w64 (third) tt)
-    (λ c. fits c w64 (third ⊕ lit (pos 2048)) tt)
-    (λ c. fits c w32 (out third) tt)
-    (λ c. fits c w64 (p ⊕ q) tt)
-    (λ c. fits c w64 (p ⊕ q ⊝ s) tt)
-    (λ c. fits c w64 (p ⊕ q ⊝ s ⊕ lit (pos 2048)) tt)
-    (λ c. fits c w32 (out (p ⊕ q ⊝ s)) tt)
-    returns
-    returns-2)
+    (λ c. fits c w64 (d0 ⊛ lit (pos 2482)) tt) (λ c. fits c w64 (p) tt) (λ c. fits c w64 (a0 ⊛ lit (pos 2482)) tt)
+    (λ c. fits c w64 (c0 ⊛ lit (pos 1321)) tt) (λ c. fits c w64 (a0 ⊛ lit (pos 2482) ⊝ c0 ⊛ lit (pos 1321)) tt)
+    (λ c. fits c w64 (d0 ⊛ lit (pos 3803)) tt) (λ c. fits c w64 (q) tt) (λ c. fits c w64 (s) tt)
+    (λ c. fits c w64 (p ⊕ s) tt) (λ c. fits c w64 (p ⊕ s ⊕ lit (pos 2048)) tt) (λ c. fits c w32 (out (p ⊕ s)) tt)
+    (λ c. fits c w64 (q ⊕ s) tt) (λ c. fits c w64 (q ⊕ s ⊕ lit (pos 2048)) tt) (λ c. fits c w32 (out (q ⊕ s)) tt)
+    (λ c. fits c w64 (a0 ⊝ c0) tt) (λ c. fits c w64 (a0 ⊝ c0 ⊕ d0) tt) (λ c. fits c w64 (third) tt)
+    (λ c. fits c w64 (third ⊕ lit (pos 2048)) tt) (λ c. fits c w32 (out third) tt) (λ c. fits c w64 (p ⊕ q) tt)
+    (λ c. fits c w64 (p ⊕ q ⊝ s) tt) (λ c. fits c w64 (p ⊕ q ⊝ s ⊕ lit (pos 2048)) tt)
+    (λ c. fits c w32 (out (p ⊕ q ⊝ s)) tt) returns returns-2)

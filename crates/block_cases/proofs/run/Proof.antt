@@ -20,39 +20,16 @@ Inv-loop job file piece output₀ error₀ at₀ have₀ put₀ told₀ sums₀ 
     Held file output error sums have «record» turns
 
 abbrev μ-loop : tie.MeasureT-loop
-μ-loop job file piece output₀ error₀ at₀ have₀ put₀ told₀ sums₀ version₀ record₀ turns₀ output error at have put told sums version «record» turns = turns
+μ-loop job file piece output₀ error₀ at₀ have₀ put₀ told₀ sums₀ version₀ record₀ turns₀ output error at have put told sums version «record» turns =
+    turns
 
 pub run-spec : {M : Type 1} → statement M
 run-spec =
-    tie.close
-    (tie.spec
+    tie.close (tie.spec
     Inv-loop
-    μ-loop
-    (λ c. search needs)
-    (λ c. search needs)
-    (λ c. simp length-take (omega arith))
-    (λ c. search needs)
-    (λ c κs. search needs)
-    (λ c. search needs)
-    (λ c. search needs)
-    (λ c. search needs)
-    (λ c. search needs)
-    (λ c. search needs)
-    (λ c. search needs)
-    (λ c. search needs)
-    (λ c κs. search needs)
-    (λ c. search needs)
-    (λ c. search needs)
-    (λ c. search needs)
-    (λ c. search needs)
-    (λ c κs. search needs)
-    (λ c κs. search needs)
-    (λ c. search needs)
-    (λ c. search needs)
-    (λ c. search needs)
-    (λ c. search needs)
-    (λ c. search needs)
-    (λ c. search needs)
-    (λ c. search needs)
-    (λ c. search needs)
-    (λ c. search needs))
+    μ-loop (λ c. search needs) (λ c. search needs) (λ c. simp length-take (omega arith))
+    (λ c. search needs) (λ c κs. search needs) (λ c. search needs) (λ c. search needs) (λ c. search needs)
+    (λ c. search needs) (λ c. search needs) (λ c. search needs) (λ c. search needs) (λ c κs. search needs)
+    (λ c. search needs) (λ c. search needs) (λ c. search needs) (λ c. search needs) (λ c κs. search needs)
+    (λ c κs. search needs) (λ c. search needs) (λ c. search needs) (λ c. search needs) (λ c. search needs)
+    (λ c. search needs) (λ c. search needs) (λ c. search needs) (λ c. search needs) (λ c. search needs))

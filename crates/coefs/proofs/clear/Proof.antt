@@ -14,15 +14,9 @@ abbrev μ-loop : tie.MeasureT-loop
 
 pub clear-spec : {M : Type 1} → statement M
 clear-spec =
-    tie.close
-    (tie.spec
-    Inv-loop
-    μ-loop
-    (λ c. record { is = refl; few = omega arith })
+    tie.close (tie.spec Inv-loop μ-loop (λ c. record { is = refl; few = omega arith })
     (λ c. omega (arith, c .before .before .pre))
     (λ c. let s = c .before .before in omega (arith, as-long (c .before .loop .inv) (s .pre), s .pre))
-    (λ c. omega arith)
-    (λ c. omega arith)
-    (λ c. one-more (c .before .loop .inv) (c .before .before .pre) (c .loop-test .taken))
+    (λ c. omega arith) (λ c. omega arith) (λ c. one-more (c .before .loop .inv) (c .before .before .pre) (c .loop-test .taken))
     (λ c. as-long (c .before .loop .inv) (c .before .before .pre))
     (λ c. all-clear (c .before .loop .inv) (c .before .before .pre) (c .loop-test .left)))

@@ -10,7 +10,7 @@ use mir.Syntax.{w16}
 use mir.Val.{SFits}
 use Rattle.whole.specs.Lists.{at}
 use Rattle.whole.proofs.Counts.{last-or-less}
-use Rattle.coefs.specs.Coefs.{Alike}
+use Rattle.coefs.specs.Inner.{Alike}
 use Rattle.coefs.proofs.Shorts.{wide-fits, wide-is}
 use Rattle.coefs.proofs.widen.Statement.{statement}
 use Rattle.coefs.proofs.widen.Tie as tie
@@ -24,8 +24,7 @@ abbrev μ-loop : tie.MeasureT-loop
 -- one number more
 alike-more : (k : ℕ) (c t : List ℤ) (z : ℤ) → Alike k c t → k < length t → z ≡ at c k → (m : ℕ) → m ≡ k + 1 → Alike m c (set t k z)
 alike-more k c t z a l e m q i g =
-    last-or-less i k (λ (j : ℕ). at c j ≡ at (set t k z) j) (omega arith)
-    (sym e ∙ sym (getD-set-same t k z (pos 0) l))
+    last-or-less i k (λ (j : ℕ). at c j ≡ at (set t k z) j) (omega arith) (sym e ∙ sym (getD-set-same t k z (pos 0) l))
     (λ h. a i h ∙ sym (getD-set-other t k i z (pos 0) (λ e. omega arith)))
 
 module _ (c : tie.In-loop Inv-loop μ-loop) where
@@ -46,25 +45,18 @@ number c = record { sfits = c .v .given }
 
 loop-again : tie.Need-loop-again Inv-loop μ-loop
 loop-again c =
-    let k = c .before in
-    let l = k .before .loop in
-    let v = at (s k .args .c .now) (i k) in
-    (omega (arith, k .loop-test .taken), length-set (l .t) _ _ ∙ l .inv .1, alike-more (i k) (s k .args .c .now) (l .t) _ (l .inv .2) (here k) (wide-is v (number c)) _ (omega arith))
+    let k = c .before in let l = k .before .loop in let v = at (s k .args .c .now) (i k) in (
+      omega (arith, k .loop-test .taken),
+      length-set (l .t) _ _ ∙ l .inv .1,
+      alike-more (i k) (s k .args .c .now) (l .t) _ (l .inv .2) (here k) (wide-is v (number c)) _ (omega arith),
+    )
 
 pub widen-spec : {M : Type 1} → statement M
 widen-spec =
-    tie.close
-    (tie.spec
-    Inv-loop
-    μ-loop
-    (λ c. (omega arith, refl, λ i l. let f : ⊥ = omega arith in absurd f))
-    (λ c. omega (arith, there c, s c .good .1 .1 .0 .1))
-    (λ c. there c)
+    tie.close (tie.spec Inv-loop μ-loop (λ c. (omega arith, refl, λ i l. let f : ⊥ = omega arith in absurd f))
+    (λ c. omega (arith, there c, s c .good .1 .1 .0 .1)) (λ c. there c)
     (λ c. let k = c .before in wide-fits (at (s k .args .c .now) (i k)) (number c))
-    (λ c. omega (arith, here (c .before), s (c .before) .good .0 .1))
-    (λ c. here (c .before))
+    (λ c. omega (arith, here (c .before), s (c .before) .good .0 .1)) (λ c. here (c .before))
     (λ c. let k = c .before in omega (arith, k .loop-test .taken, s k .fits .n))
-    (λ c. omega arith)
-    loop-again
-    (λ c. c .before .loop .inv .1)
+    (λ c. omega arith) loop-again (λ c. c .before .loop .inv .1)
     (λ c i l. c .before .loop .inv .2 i (omega (arith, c .before .loop .inv .0, c .loop-test .left))))

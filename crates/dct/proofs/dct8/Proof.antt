@@ -1,71 +1,31 @@
 -- `dct::dct8` meets its contract: each call is one stage more of the walk through its steps.
 use mathlib.Core.Path.{refl}
-use mathlib.Core.Bool.{Bool, _||_}
-use mathlib.Core.List.{List, _++_}
-use Prim.Native.Nat.{ℕ, _-_}
-use lib.IntN.{ℤ}
-use lib.ListN.{take, drop}
+use mathlib.Core.Bool.{false}
 use borrow.Author.Needs.{needs}
-use Rattle.av1.specs.Network.{Step}
-use Rattle.dct.specs.Halves.{before, last}
-use Rattle.dct.proofs.Walk.{Walked, halved, turned, joined, by-tx64, in-full, ask-turns, ask-joins}
+use Rattle.dct.proofs.Walk.{Walked, Next, Turned, begin, turned, joined, through, by-tx64, in-full, ask-turns, ask-joins}
 use Rattle.dct.proofs.dct8.Statement.{statement}
 use Rattle.dct.proofs.dct8.Tie as tie
 
-abbrev steps : ℕ → ℕ → List Step
-steps i j = take (j - i) (drop i (before 2 ++ last 2))
+w0 : (s : tie.Start) → Walked (s .args .tx64) (s .args .min) (s .args .max) (s .args .t .now) 0 (s .args .t .now) false
+w0 s = begin (s .fits .min) (s .fits .max) (s .pre)
 
-abbrev Walk : tie.Start → ℕ → List ℤ → Bool → Type 0
-Walk s k u r = Walked (s .args .tx64) (s .args .min) (s .args .max) (s .args .t .now) (steps 0 k) u r
+w1 : (c : tie.After-dct4) → Next (w0 (c .before .before)) 4 (c .dct4 .last .0) (c .dct4 .result)
+w1 c = let e = c .dct4 .ensures in joined (w0 (c .before .before)) 4 refl (record { elements = e .elements; mark = e .mark })
 
-abbrev s0 : tie.After-dct4 → tie.Start
-s0 c = c .before .before
+w2 : (c : tie.After-first) → Turned (w1 (c .before .before .before .before)) 6 (c .first .last .0)
+w2 c = turned (w1 (c .before .before .before .before)) 6 refl tt (c .first .ensures)
 
-abbrev m0 : tie.After-dct4 → Bool
-m0 c = c .dct4 .result
+w3 : (c : tie.After-joins) → Next (w2 (c .before .before .before)) 8 (c .joins .last .0) (c .joins .result)
+w3 c = joined (w2 (c .before .before .before)) 8 refl (c .joins .ensures)
 
-w0 : (c : tie.After-dct4) → Walk (s0 c) 4 (c .dct4 .last .0) (m0 c)
-w0 c = halved 1 (s0 c .fits .min) (s0 c .fits .max) (s0 c .pre) (c .dct4 .ensures)
-
-abbrev s1 : tie.After-first → tie.Start
-s1 c = s0 (c .before .before .before .before)
-
-w1 : (c : tie.After-first) → Walk (s1 c) 6 (c .first .last .0) (m0 (c .before .before .before .before))
-w1 c = turned (w0 (c .before .before .before .before)) (steps 4 6) tt (c .first .ensures)
-
-abbrev s2 : tie.After-joins → tie.Start
-s2 c = s1 (c .before .before .before)
-
-abbrev m2 : tie.After-joins → Bool
-m2 c = m0 (c .before .before .before .before .before .before .before) || c .joins .result
-
-w2 : (c : tie.After-joins) → Walk (s2 c) 8 (c .joins .last .0) (m2 c)
-w2 c = joined (w1 (c .before .before .before)) (steps 6 8) (c .joins .ensures)
-
-abbrev s3 : tie.After-turns → tie.Start
-s3 c = s2 (c .before .before .before .before)
-
-w3 : (c : tie.After-turns) → Walk (s3 c) 9 (c .turns .last .0) (m2 (c .before .before .before .before))
-w3 c = turned (w2 (c .before .before .before .before)) (steps 8 9) tt (c .turns .ensures)
-
-returns : tie.Need-returns
-returns c =
-    let w = joined (w3 (c .before .before .before)) (last 2) (c .joins2 .ensures) in
-    record { elements = w .is; mark = w .mark }
+w4 : (c : tie.After-turns) → Turned (w3 (c .before .before .before .before)) 9 (c .turns .last .0)
+w4 c = turned (w3 (c .before .before .before .before)) 9 refl tt (c .turns .ensures)
 
 pub dct8-spec : {M : Type 1} → statement M
 dct8-spec =
-    tie.close
-    (tie.spec
-    (λ c κs. search needs)
-    (λ c. search needs)
-    (λ c. search needs)
-    (λ c κs. ask-turns by-tx64 (w0 (c .before .before .before)) refl tt tt)
-    (λ c. search needs)
-    (λ c κs. ask-joins (w1 (c .before .before)) tt tt)
-    (λ c. search needs)
-    (λ c. search needs)
-    (λ c κs. ask-turns in-full (w2 (c .before .before .before)) refl tt tt)
-    (λ c. search needs)
-    (λ c κs. ask-joins (w3 (c .before .before)) tt tt)
-    returns)
+    tie.close (tie.spec (λ c κs. search needs) (λ c. search needs) (λ c. search needs)
+    (λ c κs. ask-turns by-tx64 (w1 (c .before .before .before)) refl tt tt) (λ c. search needs)
+    (λ c κs. ask-joins (w2 (c .before .before)) tt tt) (λ c. search needs) (λ c. search needs)
+    (λ c κs. ask-turns in-full (w3 (c .before .before .before)) refl tt tt) (λ c. search needs)
+    (λ c κs. ask-joins (w4 (c .before .before)) tt tt)
+    (λ c. through 2 refl (joined (w4 (c .before .before .before)) 13 refl (c .joins2 .ensures))))

@@ -1,18 +1,10 @@
 -- `dct::lones` meets its contract.
-use mathlib.Core.Path.{refl, _∙_}
+use mathlib.Core.Path.{refl}
 use mathlib.Core.Bool.{true}
-use Prim.Native.Nat.{_+_, _-_, _<_}
+use Prim.Native.Nat.{_-_}
 use native.Mathlib.Omega.{arith}
-use lib.IntN.{pos}
-use lib.ListN.{length, getD}
-use mir.Syntax.{w32}
-use mir.ValLaws.{toZ-ofZ}
-use Rattle.whole.proofs.Held.{to2}
-use Rattle.av1.specs.Network.{B, step}
-use Rattle.av1.specs.Values.{exact}
-use Rattle.dct.specs.Fitting.{Lonely}
-use Rattle.dct.proofs.Fits.{able-lone}
-use Rattle.dct.proofs.Loop.{Come, begin, here, further, ended}
+use lib.ListN.{length}
+use Rattle.dct.proofs.Loop.{Come, begin, asks-lone, further, ended}
 use Rattle.dct.proofs.lones.Statement.{statement}
 use Rattle.dct.proofs.lones.Tie as tie
 
@@ -22,53 +14,14 @@ Inv-loop t₀ pairs angles flip i₀ t i = Come true flip pairs angles t₀ t i
 abbrev μ-loop : tie.MeasureT-loop
 μ-loop t₀ pairs angles flip i₀ t i = length pairs - i
 
-module _ (c : tie.After-sin Inv-loop μ-loop) where
-  abbrev head : tie.At-loop Inv-loop μ-loop
-  head = c .before .before .before .before .before
-
-  abbrev s : tie.Start Inv-loop μ-loop
-  s = head .before .before
-
-  abbrev more : head .loop .i + 1 < length (s .args .pairs .now)
-  more = c .before .before .before .before .loop-test .taken
-
-lone-requires : tie.Need-lone-requires Inv-loop μ-loop
-lone-requires c κs =
-    let e = c .before in
-    let q = s e in
-    to2 (Lonely (head e .loop .t) _ _) (record { sfits = e .before .cos .given }) (record { sfits = e .sin .given }) (able-lone (here true (q .args .flip) (q .args .pairs .now) (q .args .angles .now) (head e .loop .inv) (more e) (q .pre .even)) refl)
-
-loop-again : tie.Need-loop-again Inv-loop μ-loop
-loop-again c =
-    let e = c .before .before in
-    let q = s e in
-    let ps = q .args .pairs .now in
-    let cs = q .args .angles .now in
-    let i = head e .loop .i in
-    let cos = toZ-ofZ w32 (getD cs i (pos 0)) (record { sfits = e .before .cos .given }) in
-    let sin = toZ-ofZ w32 (getD cs (i + 1) (pos 0)) (record { sfits = e .sin .given }) in
-    further true (q .args .flip) ps cs (head e .loop .inv) (more e) (q .pre .even) (c .lone .ensures ∙ (λ k. step exact (B (getD ps i 0) (getD ps (i + 1) 0) (cos k) (sin k) (q .args .flip)) (head e .loop .t)))
-
 pub lones-spec : {M : Type 1} → statement M
 lones-spec =
-    tie.close
-    (tie.spec
-    Inv-loop
-    μ-loop
-    (λ c. let q = c .before in begin true (q .args .flip) (q .args .pairs .now) (q .args .angles .now) (q .pre))
-    (λ c. omega (arith, c .loop .inv .inside))
-    (λ c. omega arith)
-    (λ c. omega arith)
-    (λ c. omega arith)
-    (λ c. omega arith)
-    (λ c. omega arith)
-    (λ c. omega arith)
-    (λ c. omega arith)
-    (λ c. omega arith)
-    (λ c. omega arith)
-    (λ c. omega arith)
-    lone-requires
-    (λ c. omega arith)
-    (λ c. omega arith)
-    loop-again
-    (λ c. let h = c .before in let q = h .before .before in ended true (q .args .flip) (q .args .pairs .now) (q .args .angles .now) (h .loop .inv) (c .loop-test .left)))
+    tie.close (tie.spec Inv-loop μ-loop (λ c. begin (c .before .pre)) (λ c. omega (arith, c .loop .inv .inside))
+    (λ c. omega arith) (λ c. omega arith) (λ c. omega arith) (λ c. omega arith) (λ c. omega arith)
+    (λ c. omega arith) (λ c. omega arith) (λ c. omega arith) (λ c. omega arith) (λ c. omega arith) (λ c κs.
+    let e = c .before in let i = e .before .before .before .before in let q = i .before .before .before .pre in
+    asks-lone (i .before .loop .inv) (i .loop-test .taken) q (record { sfits = e .before .cos .given }) (record { sfits = e .sin .given }) refl)
+    (λ c. omega arith) (λ c. omega arith) (λ c.
+    let e = c .before .before in let i = e .before .before .before .before in let q = i .before .before .before .pre in
+    further (i .before .loop .inv) (i .loop-test .taken) q (record { sfits = e .before .cos .given }) (record { sfits = e .sin .given })
+    (c .lone .ensures)) (λ c. ended (c .before .loop .inv) (c .loop-test .left)))

@@ -1,37 +1,13 @@
 -- `dct::store` meets its contract.
-use mathlib.Core.Path.{_≡_, sym, ap, _∙_}
-use mathlib.Core.Bool.{Bool}
-use lib.IntN.{ℤ}
-use lib.ListN.{set}
-use mir.Syntax.{w32}
-use mir.Val.{toZ, ofZ}
-use mir.ValLaws.{toZ-ofZ}
+use mathlib.Core.Bool.{true, false}
 use borrow.Author.Needs.{needs}
-use Rattle.dct.specs.Stages.{stored}
+use Rattle.dct.proofs.Results.{put}
 use Rattle.dct.proofs.store.Statement.{statement}
 use Rattle.dct.proofs.store.Tie as tie
 
-module _ (s : tie.Start) where
-  u-is : toZ w32 (ofZ w32 (s .args .u)) ≡ s .args .u
-  u-is = toZ-ofZ w32 (s .args .u) (s .fits .u)
-
-  v-is : toZ w32 (ofZ w32 (s .args .v)) ≡ s .args .v
-  v-is = toZ-ofZ w32 (s .args .v) (s .fits .v)
-
-  flipped : {flip : Bool} → s .args .flip ≡ flip → stored (s .args .a) (s .args .b) flip (s .args .u) (s .args .v) (s .args .t .now) ≡ stored (s .args .a) (s .args .b) (s .args .flip) (s .args .u) (s .args .v) (s .args .t .now)
-  flipped e = ap (λ (f : Bool). stored (s .args .a) (s .args .b) f (s .args .u) (s .args .v) (s .args .t .now)) (sym e)
-
 pub store-spec : {M : Type 1} → statement M
 store-spec =
-    tie.close
-    (tie.spec
-    (λ c. search needs)
-    (λ c. search needs)
-    (λ c. search needs)
-    (λ c. search needs)
-    (λ c. search needs)
-    (λ c. search needs)
-    (λ c. search needs)
-    (λ c. search needs)
-    (λ c. let s = c .before in (λ i. set (set (s .args .t .now) (s .args .a) (v-is s i)) (s .args .b) (u-is s i)) ∙ flipped s (c .if1 .taken))
-    (λ c. let s = c .before in (λ i. set (set (s .args .t .now) (s .args .a) (u-is s i)) (s .args .b) (v-is s i)) ∙ flipped s (c .if1 .left)))
+    tie.close (tie.spec (λ c. search needs) (λ c. search needs) (λ c. search needs) (λ c. search needs) (λ c. search needs)
+    (λ c. search needs) (λ c. search needs) (λ c. search needs)
+    (λ c. let s = c .before in put (s .args .a) (s .args .b) (s .args .t .now) (s .fits .u) (s .fits .v) true (c .if1 .taken))
+    (λ c. let s = c .before in put (s .args .a) (s .args .b) (s .args .t .now) (s .fits .u) (s .fits .v) false (c .if1 .left)))

@@ -9,7 +9,8 @@ use native.Mathlib.Omega.{arith}
 use borrow.Author.Needs.{needs}
 use lib.ListN.{length, take, length-take, length-drop}
 use Rattle.jobs.specs.Steps.{mind}
-use Rattle.jobs.specs.Answer.{Mind, taskOf, Minds, placeAt}
+use Rattle.jobs.specs.Stepping.{Minds, place-at}
+use Rattle.jobs.specs.Jobs.{Mind, task-of}
 use Rattle.jobs.specs.declared.step.Job.{Job}
 use Rattle.jobs.specs.declared.step.Turn.{Turn}
 use Rattle.jobs.specs.declared.step.Turn.the-variants as Turn
@@ -21,8 +22,8 @@ use Rattle.drive.proofs.run.Tie as tie
 
 record Held (job : Job) (input output error sums : List ℕ) (at have put told version i read sent said turns : ℕ) : Type 0 where
   thought : Mind job
-  runs : Running (taskOf job) input output error at have put told read sent said (placeAt version i thought)
-  minds : Minds job sums (mind (taskOf job) (placeAt version i thought))
+  runs : Running (task-of job) input output error at have put told read sent said (place-at version i thought)
+  minds : Minds job sums (mind (task-of job) (place-at version i thought))
   counted : i + turns ≤ 140737488355328
   read-few : read + turns * 32768 ≤ 4611686018427387904
   sent-few : sent + turns * 32768 ≤ 4611686018427387904
@@ -33,11 +34,13 @@ record Held (job : Job) (input output error sums : List ℕ) (at have put told v
   sums-length : 276 ≡ length sums
 
 abbrev Inv-loop : tie.InvT-loop
-Inv-loop job input₀ output₀ error₀ sums₀ at₀ have₀ put₀ told₀ version₀ record₀ read₀ sent₀ said₀ is-last₀ turns₀ input output error sums at have put told version «record» read sent said is-last turns =
+Inv-loop job input₀ output₀ error₀ sums₀ at₀ have₀ put₀ told₀ version₀ record₀ read₀ sent₀ said₀ is-last₀ turns₀ input output
+    error sums at have put told version «record» read sent said is-last turns =
     Held job input output error sums at have put told version «record» read sent said turns
 
 abbrev μ-loop : tie.MeasureT-loop
-μ-loop job input₀ output₀ error₀ sums₀ at₀ have₀ put₀ told₀ version₀ record₀ read₀ sent₀ said₀ is-last₀ turns₀ input output error sums at have put told version «record» read sent said is-last turns =
+μ-loop job input₀ output₀ error₀ sums₀ at₀ have₀ put₀ told₀ version₀ record₀ read₀ sent₀ said₀ is-last₀ turns₀ input output
+    error sums at have put told version «record» read sent said is-last turns =
     turns
 
 -- ---- where the turn began, and what the step did
@@ -64,13 +67,15 @@ same-sums : (c : tie.After-step Inv-loop μ-loop) → 276 ≡ length (sums c)
 same-sums c = omega (arith, top c .loop .inv .sums-length, c .step .kept)
 
 abbrev Did : tie.After-step Inv-loop μ-loop → Turn → Type 0
-Did c = let l = top c .loop in After (top c .before .args .job) (l .version) (l .«record») (l .inv .thought) (l .inv .runs) (l .is-last) (sums c) (out c) (err c)
+Did c = let l = top c .loop in After (top c .before .args .job) (l .version) (l .«record») (l .inv .thought) (l .inv .runs)
+    (l .is-last) (sums c) (out c) (err c)
 
 did : (c : tie.After-step Inv-loop μ-loop) → Did c (c .step .result)
 did c =
     let l = top c .loop in
     after (top c .before .args .job) (l .version) (l .«record») (l .inv .thought) (l .inv .runs) (l .is-last) (sums c) (out c) (err c)
-    (sym (same-output c) ∙ l .inv .output-length) (sym (same-error c) ∙ l .inv .error-length) (l .sums) (l .inv .minds) (c .step .result) (c .step .ensures (l .inv .thought))
+    (sym (same-output c) ∙ l .inv .output-length) (sym (same-error c) ∙ l .inv .error-length) (l .sums) (l .inv .minds)
+    (c .step .result) (c .step .ensures (l .inv .thought))
 
 -- something was written
 abbrev step1 : tie.After-known-told Inv-loop μ-loop → tie.After-step Inv-loop μ-loop
@@ -89,24 +94,23 @@ step3 c = c .before .before .before .before
 
 still : (c : tie.At-match-came Inv-loop μ-loop) → Did (step3 c) Turn.Full
 still c =
-    let s = step3 c in
-    ⊎-elim (λ w. subst (Did s) (w .1 .given .1) (did s)) (λ w. let m : Did s Turn.More = subst (Did s) (w .1 .given .1) (did s) in (m .0, m .1 .0)) (c .match .came)
+    let s = step3 c in ⊎-elim (λ w. subst (Did s) (w .1 .given .1) (did s))
+    (λ w. let m : Did s Turn.More = subst (Did s) (w .1 .given .1) (did s) in (m .0, m .1 .0)) (c .match .came)
 
 few : (c : tie.At-match-came Inv-loop μ-loop) → c .match .is-wanted ≡ true → top (step3 c) .loop .have - top (step3 c) .loop .at < 10265
 few c h =
-    let s = step3 c in
-    ⊎-elim (λ w. let z : _≡_ {A = ℕ} 0 1 = cc in absurd (omega arith)) (λ w. let m : Did s Turn.More = subst (Did s) (w .1 .given .1) (did s) in m .1 .1) (c .match .came)
+    let s = step3 c in ⊎-elim (λ w. let z : _≡_ {A = ℕ} 0 1 = cc in absurd (omega arith))
+    (λ w. let m : Did s Turn.More = subst (Did s) (w .1 .given .1) (did s) in m .1 .1) (c .match .came)
 
 -- what is held was moved to the front
 abbrev wanted : tie.After-to-front Inv-loop μ-loop → tie.At-match-came Inv-loop μ-loop
 wanted c = c .before .before .before .before .before .before .before
 
-moved : (c : tie.After-to-front Inv-loop μ-loop)
-    → let s = step3 (wanted c) in let l = top s .loop in
-    Running (taskOf (top s .before .args .job)) (c .to-front .last .0) (out s) (err s) 0 (c .to-front .result) 0 0 (l .read) (l .sent + l .put) (l .said + l .told) (placeAt (l .version) (l .«record») (l .inv .thought))
+moved : (c : tie.After-to-front Inv-loop μ-loop) → let s = step3 (wanted c) in let l = top s .loop in
+    Running (task-of (top s .before .args .job)) (c .to-front .last .0) (out s) (err s) 0 (c .to-front .result) 0 0 (l .read)
+    (l .sent + l .put) (l .said + l .told) (place-at (l .version) (l .«record») (l .inv .thought))
 moved c =
-    let s = step3 (wanted c) in
-    let t = taskOf (top s .before .args .job) in
+    let s = step3 (wanted c) in let t = task-of (top s .before .args .job) in
     to-the-front t (flushed t (still (wanted c) .0)) (c .to-front .ensures .bytes) (c .to-front .ensures .count) (c .to-front .kept .0)
 
 -- and more was read after it
@@ -119,8 +123,8 @@ same-input c = omega (arith, top (step3 (wanted (front c))) .loop .inv .input-le
 loop-holds : tie.Need-loop-holds Inv-loop μ-loop
 loop-holds c =
     record {
-      thought = taskOf (c .args .job) .start;
-      runs = begin (taskOf (c .args .job)) _ _ _;
+      thought = task-of (c .args .job) .start;
+      runs = begin (task-of (c .args .job)) _ _ _;
       minds = minds-none (c .args .job);
       counted = omega arith;
       read-few = omega arith;
@@ -132,14 +136,9 @@ loop-holds c =
       sums-length = search needs;
     }
 
-slice-aggregate-step : tie.Need-slice-aggregate-step Inv-loop μ-loop
-slice-aggregate-step c = simp length-take (omega arith)
-
 loop-again : tie.Need-loop-again Inv-loop μ-loop
 loop-again c =
-    let s = step1 c in
-    let l = top s .loop in
-    let t = c .before .turn .given in
+    let s = step1 c in let l = top s .loop in let t = c .before .turn .given in
     let x : Did s (Turn.Wrote (t .0 .0) (t .0 .1 .0) (t .0 .1 .1 .0) (t .0 .1 .1 .1 .0)) = subst (Did s) (t .1) (did s) in
     record {
       thought = x .0;
@@ -155,40 +154,20 @@ loop-again c =
       sums-length = same-sums s;
     }
 
-array-share-prefix-output : tie.Need-array-share-prefix-output Inv-loop μ-loop
-array-share-prefix-output c = omega (arith, last c .0, same-output (step2 c))
-
-slice-aggregate-finish : tie.Need-slice-aggregate-finish Inv-loop μ-loop
-slice-aggregate-finish c = simp length-take (omega (arith, last (c .before) .0, same-output (step2 (c .before))))
-
-array-share-prefix-error : tie.Need-array-share-prefix-error Inv-loop μ-loop
-array-share-prefix-error c = omega (arith, last (c .before) .1 .0, same-error (step2 (c .before)))
-
-slice-aggregate-finish-2 : tie.Need-slice-aggregate-finish-2 Inv-loop μ-loop
-slice-aggregate-finish-2 c = simp length-take (omega (arith, last (c .before .before) .1 .0, same-error (step2 (c .before .before))))
-
-finish-requires : tie.Need-finish-requires Inv-loop μ-loop
-finish-requires c κs = last (c .before .before) .1 .1
-
-slice-aggregate-hand-on : tie.Need-slice-aggregate-hand-on Inv-loop μ-loop
-slice-aggregate-hand-on c = simp length-take (omega (arith, still (c .before) .0 .room))
-
-slice-aggregate-hand-on-2 : tie.Need-slice-aggregate-hand-on-2 Inv-loop μ-loop
-slice-aggregate-hand-on-2 c = simp length-take (omega (arith, still (c .before .before) .0 .error-room))
-
-hand-on-requires : tie.Need-hand-on-requires Inv-loop μ-loop
-hand-on-requires c κs = next (taskOf (top (step3 (c .before .before)) .before .args .job)) (still (c .before .before) .0)
-
 fill-requires : tie.Need-fill-requires Inv-loop μ-loop
 fill-requires c κs =
-    let f = c .before .before in
-    omega (arith, f .to-front .ensures .count, few (wanted f) (f .before .before .if2 .taken), top (step3 (wanted f)) .loop .inv .input-length, f .to-front .kept)
+    let f = c .before .before in omega (
+      arith,
+      f .to-front .ensures .count,
+      few (wanted f) (f .before .before .if2 .taken),
+      top (step3 (wanted f)) .loop .inv .input-length,
+      f .to-front .kept,
+    )
 
 sub-read : tie.Need-sub-read Inv-loop μ-loop
 sub-read c =
     let f = c .before .before .before .before in
-    let n = subst (InBuffer _ _) (c .before .filled .given .1) (f .fill .ensures .inside) in
-    n .0
+    let n = subst (InBuffer _ _) (c .before .filled .given .1) (f .fill .ensures .inside) in n .0
 
 add-read : tie.Need-add-read Inv-loop μ-loop
 add-read c =
@@ -198,14 +177,11 @@ add-read c =
 
 loop-again-2 : tie.Need-loop-again-2 Inv-loop μ-loop
 loop-again-2 c =
-    let f = c .before .before .before .before in
-    let w = wanted (front f) in
-    let n = subst (InBuffer _ _) (c .before .filled .given .1) (f .fill .ensures .inside) in
-    let s = step3 w in
-    let l = top s .loop in
-    record {
+    let f = c .before .before .before .before in let w = wanted (front f) in
+    let n = subst (InBuffer _ _) (c .before .filled .given .1) (f .fill .ensures .inside) in let s = step3 w in
+    let l = top s .loop in record {
       thought = l .inv .thought;
-      runs = filled (taskOf (top s .before .args .job)) (moved (front f)) (f .fill .ensures .kept) (n .0) (n .1);
+      runs = filled (task-of (top s .before .args .job)) (moved (front f)) (f .fill .ensures .kept) (n .0) (n .1);
       minds = still w .1;
       counted = omega (arith, l .inv .counted);
       read-few = omega (arith, l .inv .read-few, n .0, n .1, same-input f);
@@ -219,13 +195,10 @@ loop-again-2 c =
 
 loop-again-3 : tie.Need-loop-again-3 Inv-loop μ-loop
 loop-again-3 c =
-    let f = c .before .before .before in
-    let w = wanted (front f) in
-    let s = step3 w in
-    let l = top s .loop in
-    record {
+    let f = c .before .before .before in let w = wanted (front f) in let s = step3 w in let l = top s .loop in record {
       thought = l .inv .thought;
-      runs = as-before (taskOf (top s .before .args .job)) (moved (front f)) (f .fill .ensures .kept) (omega (arith, moved (front f) .inside, f .fill .kept));
+      runs = as-before (task-of (top s .before .args .job)) (moved (front f)) (f .fill .ensures .kept)
+          (omega (arith, moved (front f) .inside, f .fill .kept));
       minds = still w .1;
       counted = omega (arith, l .inv .counted);
       read-few = omega (arith, l .inv .read-few);
@@ -239,12 +212,9 @@ loop-again-3 c =
 
 loop-again-4 : tie.Need-loop-again-4 Inv-loop μ-loop
 loop-again-4 c =
-    let w = c .before .before .before .before .before in
-    let s = step3 w in
-    let l = top s .loop in
-    record {
+    let w = c .before .before .before .before .before in let s = step3 w in let l = top s .loop in record {
       thought = l .inv .thought;
-      runs = flushed (taskOf (top s .before .args .job)) (still w .0);
+      runs = flushed (task-of (top s .before .args .job)) (still w .0);
       minds = still w .1;
       counted = omega (arith, l .inv .counted);
       read-few = omega (arith, l .inv .read-few);
@@ -258,54 +228,18 @@ loop-again-4 c =
 
 pub run-spec : {M : Type 1} → statement M
 run-spec =
-    tie.close
-    (tie.spec
-    Inv-loop
-    μ-loop
-    loop-holds
-    (λ c. search needs)
-    (λ c. search needs)
-    slice-aggregate-step
-    (λ c. search needs)
-    (λ c. search needs)
-    (λ c. search needs)
-    (λ c κs. search needs)
-    (λ c. search needs)
-    (λ c. search needs)
-    (λ c. search needs)
-    loop-again
-    (λ c. search needs)
-    array-share-prefix-output
-    slice-aggregate-finish
-    array-share-prefix-error
-    slice-aggregate-finish-2
-    finish-requires
-    (λ c. search needs)
-    (λ c. search needs)
-    (λ c. search needs)
-    (λ c. search needs)
-    slice-aggregate-hand-on
-    (λ c. search needs)
-    slice-aggregate-hand-on-2
-    hand-on-requires
-    (λ c. search needs)
-    (λ c. search needs)
-    (λ c. search needs)
-    (λ c. search needs)
-    (λ c κs. search needs)
-    (λ c. search needs)
-    fill-requires
-    (λ c. search needs)
-    sub-read
-    add-read
-    (λ c. search needs)
-    loop-again-2
-    (λ c. search needs)
-    (λ c. search needs)
-    loop-again-3
-    (λ c. search needs)
-    (λ c κs. search needs)
-    (λ c. search needs)
-    (λ c. search needs)
-    loop-again-4
-    (λ c. search needs))
+    tie.close (tie.spec Inv-loop μ-loop loop-holds (λ c. search needs) (λ c. search needs)
+    (λ c. simp length-take (omega arith)) (λ c. search needs) (λ c. search needs) (λ c. search needs)
+    (λ c κs. search needs) (λ c. search needs) (λ c. search needs) (λ c. search needs) loop-again (λ c. search needs)
+    (λ c. omega (arith, last c .0, same-output (step2 c)))
+    (λ c. simp length-take (omega (arith, last (c .before) .0, same-output (step2 (c .before)))))
+    (λ c. omega (arith, last (c .before) .1 .0, same-error (step2 (c .before))))
+    (λ c. simp length-take (omega (arith, last (c .before .before) .1 .0, same-error (step2 (c .before .before)))))
+    (λ c κs. last (c .before .before) .1 .1) (λ c. search needs) (λ c. search needs) (λ c. search needs) (λ c. search needs)
+    (λ c. simp length-take (omega (arith, still (c .before) .0 .room))) (λ c. search needs)
+    (λ c. simp length-take (omega (arith, still (c .before .before) .0 .error-room)))
+    (λ c κs. next (task-of (top (step3 (c .before .before)) .before .args .job)) (still (c .before .before) .0))
+    (λ c. search needs) (λ c. search needs) (λ c. search needs) (λ c. search needs) (λ c κs. search needs)
+    (λ c. search needs) fill-requires (λ c. search needs) sub-read add-read (λ c. search needs) loop-again-2
+    (λ c. search needs) (λ c. search needs) loop-again-3 (λ c. search needs) (λ c κs. search needs)
+    (λ c. search needs) (λ c. search needs) loop-again-4 (λ c. search needs))

@@ -29,38 +29,14 @@ right = wide 2 ⊛ wide 3
 abbrev whole : E
 whole = from w64 (left ⊕ right ⊕ lit (pos 2048) ≫ 12)
 
-cast-result : tie.Need-cast-result
-cast-result c = need (ρ c) β (h c) (wide 0) w64 tt
-
-cast-result-2 : tie.Need-cast-result-2
-cast-result-2 c = need (ρ c) β (h c) (wide 1) w64 tt
-
-mul-result : tie.Need-mul-result
-mul-result c = need (ρ c) β (h c) left w64 tt
-
-cast-result-3 : tie.Need-cast-result-3
-cast-result-3 c = need (ρ c) β (h c) (wide 2) w64 tt
-
-cast-result-4 : tie.Need-cast-result-4
-cast-result-4 c = need (ρ c) β (h c) (wide 3) w64 tt
-
-mul-result-2 : tie.Need-mul-result-2
-mul-result-2 c = need (ρ c) β (h c) right w64 tt
-
-add-result : tie.Need-add-result
-add-result c = need (ρ c) β (h c) (left ⊕ right) w64 tt
-
-add-result-2 : tie.Need-add-result-2
-add-result-2 c = need (ρ c) β (h c) (left ⊕ right ⊕ lit (pos 2048)) w64 tt
-
-cast-result-5 : tie.Need-cast-result-5
-cast-result-5 c = need (ρ c) β (h c) whole w32 tt
-
 returns : tie.Need-returns
 unfolding Rattle.whole.specs.Numbers.round2 Rattle.whole.specs.Numbers._>>_
 returns c = reads (ρ c) β (h c) whole w32 tt
 
 pub dot-spec : {M : Type 1} → statement M
 dot-spec =
-    tie.close
-    (tie.spec cast-result cast-result-2 mul-result cast-result-3 cast-result-4 mul-result-2 add-result add-result-2 cast-result-5 returns)
+    tie.close (tie.spec (λ c. need (ρ c) β (h c) (wide 0) w64 tt) (λ c. need (ρ c) β (h c) (wide 1) w64 tt)
+    (λ c. need (ρ c) β (h c) left w64 tt) (λ c. need (ρ c) β (h c) (wide 2) w64 tt)
+    (λ c. need (ρ c) β (h c) (wide 3) w64 tt) (λ c. need (ρ c) β (h c) right w64 tt)
+    (λ c. need (ρ c) β (h c) (left ⊕ right) w64 tt) (λ c. need (ρ c) β (h c) (left ⊕ right ⊕ lit (pos 2048)) w64 tt)
+    (λ c. need (ρ c) β (h c) whole w32 tt) returns)

@@ -20,7 +20,8 @@ module _ (c : tie.After-reduced2) where
   s = c .before .before .before .before
 
   abbrev ρ : List ℤ
-  ρ = s .args .x ∷ c .before .reduced .result ∷ s .args .y ∷ c .reduced2 .result ∷ c .before .before .before .carry .result ∷ c .before .before .carry2 .result ∷ []
+  ρ = s .args .x ∷ c .before .reduced .result ∷ s .args .y ∷ c .reduced2 .result ∷ c .before .before .before .carry .result ∷ c
+      .before .before .carry2 .result ∷ []
 
   i-is : c .before .before .before .carry .result ≡ carry (s .args .p)
   i-is = c .before .before .before .carry .ensures ∙ ap carry (toZ-ofZ w32 (s .args .p) (s .fits .p))
@@ -40,7 +41,16 @@ module _ (c : tie.After-reduced2) where
   small : Within ρ (524288 ∷ 2047 ∷ 524288 ∷ 2047 ∷ 1 ∷ 1 ∷ [])
   small = (
     s .pre .x-small,
-    (subst⁻¹ (At-most 2047) u-is (s .pre .p-slight .less), (s .pre .y-small, (subst⁻¹ (At-most 2047) v-is (s .pre .q-slight .less), (subst⁻¹ (At-most 1) i-is (carry-small (s .args .p)), (subst⁻¹ (At-most 1) j-is (carry-small (s .args .q)), tt))))),
+    (
+      subst⁻¹ (At-most 2047) u-is (s .pre .p-slight .less),
+      (
+        s .pre .y-small,
+        (
+          subst⁻¹ (At-most 2047) v-is (s .pre .q-slight .less),
+          (subst⁻¹ (At-most 1) i-is (carry-small (s .args .p)), (subst⁻¹ (At-most 1) j-is (carry-small (s .args .q)), tt)),
+        ),
+      ),
+    ),
   )
 
 abbrev β : List ℕ
@@ -60,18 +70,11 @@ returns c =
 
 pub dot32-spec : {M : Type 1} → statement M
 dot32-spec =
-    tie.close
-    (tie.spec
-    (λ c κs. search needs)
-    (λ c κs. search needs)
+    tie.close (tie.spec (λ c κs. search needs) (λ c κs. search needs)
     (λ c κs. to1 (c .before .before .fits .p) (λ z. natAbs z ≤ 4096) (c .before .before .pre .p-slight .small))
     (λ c κs. to1 (c .before .before .before .fits .q) (λ z. natAbs z ≤ 4096) (c .before .before .before .pre .q-slight .small))
-    (λ c. need (ρ c) β (small c) (var 0 ⊛ var 1) w32 tt)
-    (λ c. need (ρ c) β (small c) (var 2 ⊛ var 3) w32 tt)
+    (λ c. need (ρ c) β (small c) (var 0 ⊛ var 1) w32 tt) (λ c. need (ρ c) β (small c) (var 2 ⊛ var 3) w32 tt)
     (λ c. need (ρ c) β (small c) (var 0 ⊛ var 1 ⊕ var 2 ⊛ var 3) w32 tt)
-    (λ c. need (ρ c) β (small c) sum w32 tt)
-    (λ c. need (ρ c) β (small c) (var 0 ⊛ var 4) w32 tt)
+    (λ c. need (ρ c) β (small c) sum w32 tt) (λ c. need (ρ c) β (small c) (var 0 ⊛ var 4) w32 tt)
     (λ c. need (ρ c) β (small c) ((sum ≫ 12) ⊕ var 0 ⊛ var 4) w32 tt)
-    (λ c. need (ρ c) β (small c) (var 2 ⊛ var 5) w32 tt)
-    (λ c. need (ρ c) β (small c) whole w32 tt)
-    returns)
+    (λ c. need (ρ c) β (small c) (var 2 ⊛ var 5) w32 tt) (λ c. need (ρ c) β (small c) whole w32 tt) returns)

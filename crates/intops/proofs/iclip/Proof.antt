@@ -13,13 +13,15 @@ returns c =
 
 returns-2 : tie.Need-returns-2
 returns-2 c =
-    let s = c .before .before in
-    toZ-ofZ w32 _ (s .fits .max) ∙ sym (clip-high (s .args .v) (s .args .min) (s .args .max) (plain (s .fits .v) (s .fits .min) (c .before .if1 .left)) (plain (s .fits .max) (s .fits .v) (c .if2 .taken)))
+    let s = c .before .before in toZ-ofZ w32 _ (s .fits .max)
+    ∙ sym (clip-high (s .args .v) (s .args .min) (s .args .max) (plain (s .fits .v) (s .fits .min) (c .before .if1 .left))
+    (plain (s .fits .max) (s .fits .v) (c .if2 .taken)))
 
 returns-3 : tie.Need-returns-3
 returns-3 c =
-    let s = c .before .before in
-    toZ-ofZ w32 _ (s .fits .v) ∙ sym (clip-none (s .args .v) (s .args .min) (s .args .max) (plain (s .fits .v) (s .fits .min) (c .before .if1 .left)) (plain (s .fits .max) (s .fits .v) (c .if2 .left)))
+    let s = c .before .before in toZ-ofZ w32 _ (s .fits .v)
+    ∙ sym (clip-none (s .args .v) (s .args .min) (s .args .max) (plain (s .fits .v) (s .fits .min) (c .before .if1 .left))
+    (plain (s .fits .max) (s .fits .v) (c .if2 .left)))
 
 pub iclip-spec : {M : Type 1} → statement M
 iclip-spec = tie.close (tie.spec returns returns-2 returns-3)

@@ -31,9 +31,6 @@ returns c = reads (ρ c) (4096 ∷ 1 ∷ []) (small c) (var 0 ⊝ taken) w32 tt 
 
 pub reduced-spec : {M : Type 1} → statement M
 reduced-spec =
-    tie.close
-    (tie.spec
-    (λ c κs. search needs)
-    (λ c. need (ρ c) (4096 ∷ 1 ∷ []) (small c) taken w32 tt)
+    tie.close (tie.spec (λ c κs. search needs) (λ c. need (ρ c) (4096 ∷ 1 ∷ []) (small c) taken w32 tt)
     (λ c. need (ρ c) (4096 ∷ 1 ∷ []) (small c) (var 0 ⊝ taken) w32 tt)
     returns)

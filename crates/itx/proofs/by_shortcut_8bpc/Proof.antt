@@ -21,7 +21,11 @@ use Rattle.itx.proofs.by_shortcut_8bpc.Tie as tie
 -- a first coefficient is there
 module _ (s : tie.Start) where
   area : 1 ≤ s .args .plan .w * s .args .plan .h
-  area = omega (arith, mul-le-mul (side-bounds (s .args .plan .w) (s .pre .sized .width) .0) (side-bounds (s .args .plan .h) (s .pre .sized .height) .0))
+  area = omega (
+    arith,
+    mul-le-mul (side-bounds (s .args .plan .w) (s .pre .sized .width) .0)
+        (side-bounds (s .args .plan .h) (s .pre .sized .height) .0),
+  )
 
   there : 0 < length (s .args .coeff .now)
   there = omega (arith, area, s .pre .coefs .count)
@@ -52,26 +56,27 @@ module _ (o : tie.After-shortcut) where
 
 shift-block-requires : tie.Need-shift-block-8bpc-requires
 shift-block-requires c κs =
-    let o = c .before in
-    let s = begun o in
-    record { height = omega (arith, s .pre .rows-in, side-bounds (s .args .plan .h) (s .pre .sized .height) .1); inside = s .pre .inside; small = small o }
+    let o = c .before in let s = begun o in record {
+      height = omega (arith, s .pre .rows-in, side-bounds (s .args .plan .h) (s .pre .sized .height) .1);
+      inside = s .pre .inside;
+      small = small o;
+    }
 
 returns : tie.Need-returns
 returns c =
-    let b = c .before .before in
-    let o = b .before .before in
-    let s = begun o in
-    record { pixels-are = b .shift-block-8bpc .ensures ∙ (λ k. add-rows 255 (s .args .dst .now) (begins (s .args .spot)) (λ y x. number-is o k) (s .args .spot .columns) (s .args .spot .rows)); coefs-are = refl }
+    let b = c .before .before in let o = b .before .before in let s = begun o in record {
+      pixels-are = b .shift-block-8bpc .ensures
+          ∙ (λ k. add-rows 255 (s .args .dst .now) (begins (s .args .spot)) (λ y x. number-is o k) (s .args .spot .columns)
+          (s .args .spot .rows));
+      coefs-are = refl;
+    }
 
 pub by-shortcut-8bpc-spec : {M : Type 1} → statement M
 by-shortcut-8bpc-spec =
-    tie.close
-    (tie.spec
-    (λ c. there (c .before))
-    (λ c. wide-fits (at (start c .args .coeff .now) 0) (read c))
-    (λ c κs. let s = start c in (s .pre .sized, subst⁻¹ (λ (z : ℤ). natAbs z ≤ 524288) (wide-is (at (s .args .coeff .now) 0) (read c)) (s .pre .coefs .small 0 (area s))))
-    shift-block-requires
-    (λ c. there (begun (c .before .before .before .before)))
-    (λ c. search needs)
-    (λ c. search needs)
-    returns)
+    tie.close (tie.spec (λ c. there (c .before)) (λ c. wide-fits (at (start c .args .coeff .now) 0) (read c))
+    (λ c κs. let s = start c in (
+      s .pre .sized,
+      subst⁻¹ (λ (z : ℤ). natAbs z ≤ 524288) (wide-is (at (s .args .coeff .now) 0) (read c)) (s .pre .coefs .small 0 (area s)),
+    ))
+    shift-block-requires (λ c. there (begun (c .before .before .before .before))) (λ c. search needs)
+    (λ c. search needs) returns)

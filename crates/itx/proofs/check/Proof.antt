@@ -10,7 +10,7 @@ use Rattle.strided.specs.Planes.{spot}
 use Rattle.levels.specs.declared.Plan.{Plan}
 use Rattle.levels.specs.Plans.{plan}
 use Rattle.itx.specs.Calls.{lengths-lines, range-line, stray-line, pixel-line, with-depth}
-use Rattle.itx.specs.Answers.{call-of, Lies, Looks, Enough, RowsIn}
+use Rattle.itx.specs.Inner.{call-of, Lies, Looks, Enough, RowsIn}
 use Rattle.itx.specs.declared.Refusal.{Refusal}
 use Rattle.itx.specs.declared.Verdict.{Verdict}
 use Rattle.itx.specs.declared.Verdict.the-variants.{Stop}
@@ -28,29 +28,24 @@ module _ (F : Verdict → Type 0) (stops : (x : Refusal) → F (Stop x)) where
 
 returns : tie.Need-returns
 returns c =
-    let t = c .before in
-    let r = t .before in
-    let o = r .before in
-    let a = o .before .before .args in
-    let v = spot Wide (a .view) in
-    let call = call-of (a .hint) in
+    let t = c .before in let r = t .before in let o = r .before in let a = o .before .before .args in
+    let v = spot Wide (a .view) in let call = call-of (a .hint) in
     let known : Check (Plan × Depth) = then (plan (a .w) (a .h) (a .txtp)) (with-depth (a .depth)) in
     let front = lengths-lines call (length (a .coeff .now)) Wide (length (a .dst .now)) (a .view) in
-    let ranged = range-line (a .coeff .now) in
-    let covered = stray-line call (a .coeff .now) in
+    let ranged = range-line (a .coeff .now) in let covered = stray-line call (a .coeff .now) in
     let lies = still-2 (Lies v) (λ x. tt) t (o .check-lengths .ensures .1) in (
       further (front ++ ranged ∷ covered ∷ []) (pixel-line (a .dst .now) v ∷ []) known
-          (further (front ++ ranged ∷ []) (covered ∷ []) known (further front (ranged ∷ []) known (o .check-lengths .ensures .0) (r .check-range .ensures .0)) (t .check-stray .ensures .0))
+          (further (front ++ ranged ∷ []) (covered ∷ []) known
+          (further front (ranged ∷ []) known (o .check-lengths .ensures .0) (r .check-range .ensures .0)) (t .check-stray .ensures .0))
           (c .check-pixels .ensures .0 v lies),
       handed-on (Lies v) (t .check-stray .result) (c .check-pixels .result) (λ x. tt) (c .check-pixels .ensures .1) lies,
     )
 
 pub check-spec : {M : Type 1} → statement M
 check-spec =
-    tie.close
-    (tie.spec
-    (λ c κs. search needs)
-    (λ c κs. c .check-lengths .ensures .3)
-    (λ c κs. (still (Enough _) (λ x. tt) c (c .before .check-lengths .ensures .3), still (RowsIn (call-of (c .before .before .before .args .hint))) (λ x. tt) c (c .before .check-lengths .ensures .4)))
-    (λ c κs. still-2 (Looks _) (λ x. tt) c (c .before .before .check-lengths .ensures .2))
+    tie.close (tie.spec (λ c κs. search needs) (λ c κs. c .check-lengths .ensures .3)
+    (λ c κs. (
+      still (Enough _) (λ x. tt) c (c .before .check-lengths .ensures .3),
+      still (RowsIn (call-of (c .before .before .before .args .hint))) (λ x. tt) c (c .before .check-lengths .ensures .4),
+    )) (λ c κs. still-2 (Looks _) (λ x. tt) c (c .before .before .check-lengths .ensures .2))
     returns)

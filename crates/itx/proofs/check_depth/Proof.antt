@@ -10,15 +10,12 @@ use Rattle.itx.proofs.check_depth.Statement.{statement}
 use Rattle.itx.proofs.check_depth.Tie as tie
 
 -- with what `Depth::of` answered
-told : (o : tie.After-of) (k : DepthCheck) → o .of .result ≡ k → then (check-of k) (λ d. accept (o .before .args .plan, d)) ≡ with-depth (o .before .args .depth) (o .before .args .plan)
+told : (o : tie.After-of) (k : DepthCheck) → o .of .result ≡ k
+    → then (check-of k) (λ d. accept (o .before .args .plan, d)) ≡ with-depth (o .before .args .depth) (o .before .args .plan)
 told o k e = ap (λ (c : Check Depth). then c (λ d. accept (o .before .args .plan, d))) (ap check-of (sym e) ∙ o .of .ensures)
 
 pub check-depth-spec : {M : Type 1} → statement M
 check-depth-spec =
-    tie.close
-    (tie.spec
-    (λ c κs. search needs)
-    (λ c. search needs)
-    (λ c. search needs)
+    tie.close (tie.spec (λ c κs. search needs) (λ c. search needs) (λ c. search needs)
     (λ c. (told (c .before .before) _ (c .enum-told .given .1), tt))
     (λ c. (told (c .before .before .before) _ (c .before .checked .given .1), c .before .before .before .before .pre)))

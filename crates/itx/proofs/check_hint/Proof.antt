@@ -11,7 +11,7 @@ use Rattle.levels.specs.declared.Plan.{Plan}
 use Rattle.itx.specs.declared.Hint.{Hint}
 use Rattle.itx.specs.declared.Hint.the-variants.{Eob}
 use Rattle.itx.specs.Calls.{eob-line, rows-line}
-use Rattle.itx.specs.Answers.{verdict-of, call-of}
+use Rattle.itx.specs.Inner.{verdict-of, call-of}
 use Rattle.itx.proofs.check_hint.Statement.{statement}
 use Rattle.itx.proofs.check_hint.Tie as tie
 
@@ -21,11 +21,12 @@ next s a = then (verdict-of (s .args .before)) (judged (eob-line (call-of a) ∷
 
 pub check-hint-spec : {M : Type 1} → statement M
 check-hint-spec =
-    tie.close
-    (tie.spec
-    (λ c. search needs)
+    tie.close (tie.spec (λ c. search needs) (λ c κs. c .before .before .before .pre) (λ c. search needs)
     (λ c κs. c .before .before .before .pre)
-    (λ c. search needs)
-    (λ c κs. c .before .before .before .pre)
-    (λ c. let k = c .before .before in (c .check-eob .ensures .0 ∙ ap (λ (z : ℤ). next (k .before .before) (Eob z)) (toZ-ofZ w32 (k .hint .given .0 .0) (record { sfits = c .before .known-told .given .0 .1 })) ∙ ap (next (k .before .before)) (sym (k .hint .given .1)), c .check-eob .ensures .1))
-    (λ c. let k = c .before .before in (c .check-rows .ensures .0 ∙ ap (next (k .before .before)) (sym (k .hint2 .given .1)), c .check-rows .ensures .1)))
+    (λ c. let k = c .before .before in (
+      c .check-eob .ensures .0 ∙ ap (λ (z : ℤ). next (k .before .before) (Eob z))
+          (toZ-ofZ w32 (k .hint .given .0 .0) (record { sfits = c .before .known-told .given .0 .1 }))
+          ∙ ap (next (k .before .before)) (sym (k .hint .given .1)),
+      c .check-eob .ensures .1,
+    )) (λ c. let k = c .before .before in
+    (c .check-rows .ensures .0 ∙ ap (next (k .before .before)) (sym (k .hint2 .given .1)), c .check-rows .ensures .1)))

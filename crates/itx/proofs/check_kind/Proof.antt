@@ -4,7 +4,8 @@ use borrow.Author.Needs.{needs}
 use Rattle.whole.specs.Checks.{Check, then}
 use Rattle.levels.specs.declared.Decision.{Decision}
 use Rattle.levels.specs.declared.Plan.{Plan}
-use Rattle.levels.specs.Plans.{decision-of, plan}
+use Rattle.levels.specs.Plans.{plan}
+use Rattle.levels.specs.Plans.{decision-of}
 use Rattle.levels.proofs.Sizes.{side-bounds, plan-sided}
 use Rattle.itx.specs.Calls.{with-depth}
 use Rattle.itx.proofs.check_kind.Statement.{statement}
@@ -18,20 +19,14 @@ with-plan o k e = let s = o .before in ap (λ (c : Check Plan). then c (with-dep
 -- a plan's sides
 check-depth-requires : tie.Need-check-depth-requires
 check-depth-requires c κs =
-    let k = c .before in
-    let s = k .before .before .before in
+    let k = c .before in let s = k .before .before .before in
     let a = plan-sided (s .args .w) (s .args .h) (s .args .txtp) _ (sym (k .before .before .of .ensures) ∙ ap decision-of (k .decision .given .1)) in
     (side-bounds _ (a .0) .1, side-bounds _ (a .1) .1)
 
 pub check-kind-spec : {M : Type 1} → statement M
 check-kind-spec =
-    tie.close
-    (tie.spec
-    (λ c κs. search needs)
-    (λ c. search needs)
-    check-depth-requires
-    (λ c. search needs)
-    (λ c. search needs)
-    (λ c. let k = c .before .before in (c .check-depth .ensures .0 ∙ with-plan (k .before .before) _ (k .decision .given .1), c .check-depth .ensures .1))
+    tie.close (tie.spec (λ c κs. search needs) (λ c. search needs) check-depth-requires (λ c. search needs) (λ c. search needs)
+    (λ c. let k = c .before .before in
+    (c .check-depth .ensures .0 ∙ with-plan (k .before .before) _ (k .decision .given .1), c .check-depth .ensures .1))
     (λ c. (with-plan (c .before .before) _ (c .enum-told .given .1), tt))
     (λ c. (with-plan (c .before .before) _ (c .enum-told2 .given .1), tt)))

@@ -7,14 +7,14 @@ use borrow.Author.Needs.{needs}
 use Rattle.whole.specs.Checks.{accept, then, unless-at, judged}
 use Rattle.bitdepth.specs.declared.Depth.{Depth}
 use Rattle.bitdepth.specs.Depths.{maximum}
-use Rattle.coefs.specs.declared.Found.{Found}
-use Rattle.coefs.specs.Coefs.{found}
+use Rattle.intops.specs.declared.Found.{Found}
+use Rattle.intops.specs.Searches.{found}
 use Rattle.levels.specs.declared.Plan.{Plan}
 use Rattle.strided.specs.declared.Spot.{Spot}
 use Rattle.pixels.specs.Above.{first-above}
 use Rattle.itx.specs.declared.Verdict.the-variants.{At}
 use Rattle.itx.specs.Calls.{pixel-line}
-use Rattle.itx.specs.Answers.{verdict-of, Lies, Looks}
+use Rattle.itx.specs.Inner.{verdict-of, Lies, Looks}
 use Rattle.itx.proofs.Opening.{halted, decides}
 use Rattle.itx.proofs.check_pixels.Statement.{statement}
 use Rattle.itx.proofs.check_pixels.Tie as tie
@@ -38,29 +38,25 @@ module _ (o : tie.After-known-told) where
 
   -- with what the search found
   decided : {k : Option ℕ} → k ≡ first-above (maximum d) (begun .args .dst .now) s (p .w)
-      → (v : Spot) → Lies v (begun .args .before) → unless-at k 21 (accept (p, d)) ≡ then (verdict-of (begun .args .before)) (judged (pixel-line (begun .args .dst .now) v ∷ []))
+      → (v : Spot) → Lies v (begun .args .before)
+      → unless-at k 21 (accept (p, d)) ≡ then (verdict-of (begun .args .before)) (judged (pixel-line (begun .args .dst .now) v ∷ []))
   decided q v l =
       decides (begun .args .before) (pixel-line (begun .args .dst .now) v) (ap verdict-of is-at)
       (q ∙ ap (λ (t : Spot). first-above (maximum d) (begun .args .dst .now) t (p .w)) (subst (Lies v) is-at l))
 
-told : (o : tie.After-first-above) {k : Found} → o .first-above .result ≡ k → let a = o .before .before in found k ≡ first-above (maximum (d a)) (begun a .args .dst .now) (s a) (p a .w)
+told : (o : tie.After-first-above) {k : Found} → o .first-above .result ≡ k → let a = o .before .before in
+    found k ≡ first-above (maximum (d a)) (begun a .args .dst .now) (s a) (p a .w)
 told o e =
-    let a = o .before .before in
-    ap found (sym e) ∙ o .first-above .ensures ∙ ap (λ (top : ℕ). first-above top (begun a .args .dst .now) (s a) (p a .w)) (o .before .maximum .ensures)
+    let a = o .before .before in ap found (sym e) ∙ o .first-above .ensures
+    ∙ ap (λ (top : ℕ). first-above top (begun a .args .dst .now) (s a) (p a .w)) (o .before .maximum .ensures)
 
 pub check-pixels-spec : {M : Type 1} → statement M
 check-pixels-spec =
-    tie.close
-    (tie.spec
-    (λ c. search needs)
-    (λ c.
+    tie.close (tie.spec (λ c. search needs) (λ c.
     let b = c .before .before in (
       (λ v l. halted (b .args .before) (judged (pixel-line (b .args .dst .now) v ∷ [])) (Looks _) (λ p d f. f) (c .match .keys2) (b .pre) .0),
       halted (b .args .before) (judged []) (Looks _) (λ p d f. f) (c .match .keys2) (b .pre) .1,
-    ))
-    (λ c κs. search needs)
-    (λ c κs. let a = c .before in subst (Looks _) (is-at a) (begun a .pre))
-    (λ c. search needs)
-    (λ c. search needs)
+    )) (λ c κs. search needs) (λ c κs. let a = c .before in subst (Looks _) (is-at a) (begun a .pre))
+    (λ c. search needs) (λ c. search needs)
     (λ c. let o = c .before .before in let a = o .before .before in (decided a (told o (c .enum-told .given .1)), is-at a))
     (λ c. let o = c .before .before .before in let a = o .before .before in (decided a (told o (c .before .found .given .1)), tt)))

@@ -8,7 +8,7 @@ use borrow.Author.Needs.{needs}
 use Rattle.whole.specs.Checks.{Line, judged}
 use Rattle.bitdepth.specs.declared.Depth.{Depth}
 use Rattle.levels.specs.declared.Plan.{Plan}
-use Rattle.itx.specs.Answers.{verdict-of, Enough}
+use Rattle.itx.specs.Inner.{verdict-of, Enough}
 use Rattle.itx.specs.Calls.{range-line}
 use Rattle.itx.proofs.Opening.{halted, decides}
 use Rattle.itx.proofs.Widths.{range-none}
@@ -27,13 +27,12 @@ module _ (k : tie.After-known-told) where
 
 pub check-range-8bpc-spec : {M : Type 1} → statement M
 check-range-8bpc-spec =
-    tie.close
-    (tie.spec
-    (λ c. search needs)
+    tie.close (tie.spec (λ c. search needs)
     (λ c. let s = c .before in halted (s .args .before) (judged (line s ∷ [])) (Enough _) (λ p d f. f) (c .match .keys2) (s .pre))
-    (λ c. omega (arith, enough (c .before), begun (c .before) .good .1 .0 .1))
-    (λ c κs. enough (c .before))
-    (λ c.
-    let k = c .before .before in
-    let e = k .before .before2 .given .1 in
-    (decides (begun k .args .before) (line (begun k)) (ap verdict-of e) (range-none (begun k .args .coeff .now) (k .before .before2 .given .0 .0) (k .before .before2 .given .0 .1 .0) (c .none-outside-8bpc .ensures)), e)))
+    (λ c. omega (arith, enough (c .before), begun (c .before) .good .1 .0 .1)) (λ c κs. enough (c .before)) (λ c.
+    let k = c .before .before in let e = k .before .before2 .given .1 in (
+      decides (begun k .args .before) (line (begun k)) (ap verdict-of e)
+          (range-none (begun k .args .coeff .now) (k .before .before2 .given .0 .0) (k .before .before2 .given .0 .1 .0)
+          (c .none-outside-8bpc .ensures)),
+      e,
+    )))

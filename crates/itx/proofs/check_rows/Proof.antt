@@ -3,7 +3,7 @@ use mathlib.Core.Path.{sym, ap, subst}
 use mathlib.Core.Bool.{Bool, not}
 use borrow.Author.Needs.{needs}
 use Rattle.whole.specs.Checks.{when}
-use Rattle.itx.specs.Answers.{verdict-of, Asked}
+use Rattle.itx.specs.Inner.{verdict-of, Asked}
 use Rattle.itx.specs.Calls.{live, rows-line}
 use Rattle.itx.proofs.Opening.{decides, stopped}
 use Rattle.itx.proofs.check_rows.Statement.{statement}
@@ -11,14 +11,15 @@ use Rattle.itx.proofs.check_rows.Tie as tie
 
 pub check-rows-spec : {M : Type 1} → statement M
 check-rows-spec =
-    tie.close
-    (tie.spec
-    (λ c. search needs)
-    (λ c. let s = c .before in stopped (s .args .before) _ Asked (λ r. tt) (c .match .keys2) (s .pre))
-    (λ c.
-    let s = c .before .before .before .before in
-    let e = c .before .before .before2 .given .1 in
-    (decides (s .args .before) (rows-line (live (s .args .r))) (ap verdict-of e) (ap (λ (t : Bool). when (not t)) (sym (c .if1 .taken))), subst Asked e (s .pre)))
-    (λ c.
-    let s = c .before .before .before .before in
-    (decides (s .args .before) (rows-line (live (s .args .r))) (ap verdict-of (c .before .before .before2 .given .1)) (ap (λ (t : Bool). when (not t)) (sym (c .if1 .left))), tt)))
+    tie.close (tie.spec (λ c. search needs)
+    (λ c. let s = c .before in stopped (s .args .before) _ Asked (λ r. tt) (c .match .keys2) (s .pre)) (λ c.
+    let s = c .before .before .before .before in let e = c .before .before .before2 .given .1 in (
+      decides (s .args .before) (rows-line (live (s .args .r))) (ap verdict-of e)
+          (ap (λ (t : Bool). when (not t)) (sym (c .if1 .taken))),
+      subst Asked e (s .pre),
+    )) (λ c.
+    let s = c .before .before .before .before in (
+      decides (s .args .before) (rows-line (live (s .args .r))) (ap verdict-of (c .before .before .before2 .given .1))
+          (ap (λ (t : Bool). when (not t)) (sym (c .if1 .left))),
+      tt,
+    )))

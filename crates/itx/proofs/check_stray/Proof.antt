@@ -6,13 +6,13 @@ use lib.IntN.{ℤ}
 use borrow.Author.Needs.{needs}
 use Rattle.whole.specs.Checks.{Line, then, judged}
 use Rattle.bitdepth.specs.declared.Depth.{Depth}
-use Rattle.coefs.specs.declared.Found.{Found}
-use Rattle.coefs.specs.Coefs.{found}
+use Rattle.intops.specs.declared.Found.{Found}
+use Rattle.intops.specs.Searches.{found}
 use Rattle.levels.specs.declared.Plan.{Plan}
 use Rattle.itx.specs.declared.Hint.{Hint}
 use Rattle.itx.specs.declared.Verdict.{Verdict}
 use Rattle.itx.specs.declared.Verdict.the-variants.{Go, At, Stop}
-use Rattle.itx.specs.Answers.{verdict-of, call-of, Enough, RowsIn, Handed}
+use Rattle.itx.specs.Inner.{verdict-of, call-of, Enough, RowsIn, Handed}
 use Rattle.itx.specs.Calls.{Call, plain, stray, live-rows, stray-line}
 use Rattle.itx.proofs.Opening.{halted, decides}
 use Rattle.itx.proofs.check_stray.Statement.{statement}
@@ -42,29 +42,27 @@ stray-is : (o : tie.After-first-stray) {f : Found} → o .first-stray .result �
     → found f ≡ stray (call-of (begun (o .before) .args .hint)) (o .before .before .before2 .given .0 .0) (begun (o .before) .args .coeff .now)
 stray-is o e =
     ap found (sym e) ∙ o .first-stray .ensures
-    ∙ ap (λ (a : Hint). stray (call-of a) (o .before .before .before2 .given .0 .0) (begun (o .before) .args .coeff .now)) (sym (known (o .before) .hint .given .1))
+    ∙ ap (λ (a : Hint). stray (call-of a) (o .before .before .before2 .given .0 .0) (begun (o .before) .args .coeff .now))
+    (sym (known (o .before) .hint .given .1))
 
 pub check-stray-spec : {M : Type 1} → statement M
 check-stray-spec =
-    tie.close
-    (tie.spec
-    (λ c. search needs)
-    (λ c. search needs)
-    (λ c.
+    tie.close (tie.spec (λ c. search needs) (λ c. search needs) (λ c.
     let s = c .before .before in
-    subst⁻¹ (λ (a : Hint). Judged (s .args .before) (s .args .coeff .now) (call-of a)) (c .enum-told .given .1) (quiet _ (s .args .before) (c .enum-told .given .0 .0) (s .args .coeff .now) (s .pre .0)))
-    (λ c. search needs)
-    (λ c. let s = c .before .before .before .before in halted (s .args .before) (judged (line s ∷ [])) (Enough _) (λ p d f. f) (c .match2 .keys2) (s .pre .0))
-    (λ c κs.
-    let e = c .before .before2 .given .1 in
-    let rows = subst (RowsIn (call-of (begun c .args .hint))) e (begun c .pre .1) in
-    (subst (Enough _) e (begun c .pre .0), subst (λ (a : Hint). live-rows (call-of a) (c .before .before2 .given .0 .0) ≤ c .before .before2 .given .0 .0 .h) (known c .hint .given .1) rows))
-    (λ c. search needs)
-    (λ c. search needs)
-    (λ c.
-    let o = c .before .before in
-    let e = o .before .before .before2 .given .1 in
+    subst⁻¹ (λ (a : Hint). Judged (s .args .before) (s .args .coeff .now) (call-of a)) (c .enum-told .given .1)
+    (quiet _ (s .args .before) (c .enum-told .given .0 .0) (s .args .coeff .now) (s .pre .0))) (λ c. search needs)
+    (λ c. let s = c .before .before .before .before in
+    halted (s .args .before) (judged (line s ∷ [])) (Enough _) (λ p d f. f) (c .match2 .keys2) (s .pre .0)) (λ c κs.
+    let e = c .before .before2 .given .1 in let rows = subst (RowsIn (call-of (begun c .args .hint))) e (begun c .pre .1) in (
+      subst (Enough _) e (begun c .pre .0),
+      subst (λ (a : Hint). live-rows (call-of a) (c .before .before2 .given .0 .0) ≤ c .before .before2 .given .0 .0 .h)
+          (known c .hint .given .1) rows,
+    )) (λ c. search needs) (λ c. search needs) (λ c.
+    let o = c .before .before in let e = o .before .before .before2 .given .1 in
     (decides (begun (o .before) .args .before) (line (begun (o .before))) (ap verdict-of e) (stray-is o (c .enum-told2 .given .1)), e))
     (λ c.
-    let o = c .before .before .before in
-    (decides (begun (o .before) .args .before) (line (begun (o .before))) (ap verdict-of (o .before .before .before2 .given .1)) (stray-is o (c .before .found .given .1)), tt)))
+    let o = c .before .before .before in (
+      decides (begun (o .before) .args .before) (line (begun (o .before))) (ap verdict-of (o .before .before .before2 .given .1))
+          (stray-is o (c .before .found .given .1)),
+      tt,
+    )))

@@ -15,8 +15,7 @@ given s = block (s .args .w) (s .args .h) (s .args .txtp) (s .args .depth) (s .a
 
 returns : tie.Need-returns
 returns c =
-    let o = c .before .before .before in
-    let s = o .before .before .before .before in
+    let o = c .before .before .before in let s = o .before .before .before .before in
     first-meets (plain (s .args .eob)) (given s) (ap plain (toZ-ofZ w32 (s .args .eob) (s .fits .eob))) (o .transform .ensures)
 
 pub inv-txfm-add-spec : {M : Type 1} → statement M

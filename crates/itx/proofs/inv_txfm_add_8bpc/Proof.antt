@@ -16,8 +16,7 @@ given s = block (s .args .w) (s .args .h) (s .args .txtp) 8 (s .args .coeff .now
 
 returns : tie.Need-returns
 returns c =
-    let o = c .before .before .before in
-    let s = o .before .before .before .before in
+    let o = c .before .before .before in let s = o .before .before .before .before in
     met (ap (λ (z : ℤ). outcome (plain z) (given s)) (toZ-ofZ w32 (s .args .eob) (s .fits .eob))) (o .transform-8bpc .ensures)
 
 pub inv-txfm-add-8bpc-spec : {M : Type 1} → statement M

@@ -13,8 +13,7 @@ given s = block (s .args .w) (s .args .h) (s .args .txtp) (s .args .depth) (s .a
 
 returns : tie.Need-returns
 returns c =
-    let o = c .before .before .before in
-    let s = o .before .before .before .before in
+    let o = c .before .before .before in let s = o .before .before .before .before in
     first-meets (live (s .args .r)) (given s) refl (o .transform .ensures)
 
 pub inv-txfm-add-live-spec : {M : Type 1} → statement M

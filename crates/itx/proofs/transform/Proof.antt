@@ -7,7 +7,8 @@ use Rattle.levels.specs.declared.Plan.{Plan}
 use Rattle.strided.specs.declared.Width.the-variants.{Wide}
 use Rattle.strided.specs.Planes.{spot, lent}
 use Rattle.itx.specs.Calls.{Block, Call, short}
-use Rattle.itx.specs.Answers.{verdict-of, call-of, block, Lies, Ready}
+use Rattle.itx.specs.Answers.{block}
+use Rattle.itx.specs.Inner.{verdict-of, call-of, Lies, Ready}
 use Rattle.residual.specs.Inner.{Served}
 use Rattle.itx.specs.Demands as Demands
 use Rattle.itx.proofs.Accepted as Accepted
@@ -54,9 +55,9 @@ way-is o e = sym (o .is-short .ensures) ∙ e
 
 refusal : tie.Need-returns-2
 refusal c =
-    let o = c .before .before .before in
-    let s = o .before .before .before .before in
-    Accepted.refusal-left (s .args .engine) (call s) (given s) (c .before .checked .given .0 .0) (sym (o .check .ensures .0) ∙ ap verdict-of (c .before .checked .given .1))
+    let o = c .before .before .before in let s = o .before .before .before .before in
+    Accepted.refusal-left (s .args .engine) (call s) (given s) (c .before .checked .given .0 .0)
+    (sym (o .check .ensures .0) ∙ ap verdict-of (c .before .checked .given .1))
 
 -- the plane's check has found a place or stopped
 never : tie.Need-returns-3
@@ -66,40 +67,24 @@ never c =
 
 shortened : tie.Need-returns
 shortened c =
-    let o = c .before .before .before .before .before .before in
-    let k = o .before .before .before in
-    let s = begun k in
-    Accepted.shortcut-left (s .args .engine) (call s) (given s) (p k) (d k) (accepted k) _ (turned k) (way-is (o .before) (o .if1 .taken)) (c .before .before .before .by-shortcut .ensures)
+    let o = c .before .before .before .before .before .before in let k = o .before .before .before in let s = begun k in
+    Accepted.shortcut-left (s .args .engine) (call s) (given s) (p k) (d k) (accepted k) _ (turned k)
+    (way-is (o .before) (o .if1 .taken)) (c .before .before .before .by-shortcut .ensures)
 
 passed : tie.Need-returns-4
 passed c =
-    let o = c .before .before .before in
-    let l = o .before .before .before in
-    let k = l .before .before .before .before .before in
-    let s = begun k in
-    Accepted.passes-left (s .args .engine) (call s) (given s) (p k) (d k) (accepted k) _ (turned k) (l .rows-to-pass .result) (way-is (l .before .before .before) (l .before .before .if1 .left)) (l .rows-to-pass .ensures) (o .by-passes .ensures)
+    let o = c .before .before .before in let l = o .before .before .before in
+    let k = l .before .before .before .before .before in let s = begun k in
+    Accepted.passes-left (s .args .engine) (call s) (given s) (p k) (d k) (accepted k) _ (turned k) (l .rows-to-pass .result)
+    (way-is (l .before .before .before) (l .before .before .if1 .left)) (l .rows-to-pass .ensures) (o .by-passes .ensures)
 
 pub transform-spec : {M : Type 1} → statement M
 transform-spec =
-    tie.close
-    (tie.spec
-    (λ c κs. search needs)
-    (λ c. search needs)
-    (λ c. search needs)
-    (λ c. search needs)
-    (λ c κs. search needs)
-    (λ c κs. ready (c .before .before .before .before .before))
-    (λ c. search needs)
-    (λ c. search needs)
-    shortened
-    (λ c κs. let k = c .before .before .before .before in (ready k .coefs .count, h-positive (given (begun k)) (p k) (d k) (call (begun k)) (accepted k)))
-    (λ c κs. let l = c .before .before in let k = l .before .before .before .before .before in (ready k, Accepted.suits-inside (call (begun k)) (given (begun k)) (p k) (d k) (accepted k) (l .rows-to-pass .ensures), served k))
-    (λ c. search needs)
-    (λ c. search needs)
-    refusal
-    (λ c. search needs)
-    (λ c. search needs)
-    never
-    (λ c. search needs)
-    (λ c. search needs)
-    passed)
+    tie.close (tie.spec (λ c κs. search needs) (λ c. search needs) (λ c. search needs) (λ c. search needs)
+    (λ c κs. search needs) (λ c κs. ready (c .before .before .before .before .before)) (λ c. search needs)
+    (λ c. search needs) shortened (λ c κs. let k = c .before .before .before .before in
+    (ready k .coefs .count, h-positive (given (begun k)) (p k) (d k) (call (begun k)) (accepted k)))
+    (λ c κs. let l = c .before .before in let k = l .before .before .before .before .before in
+    (ready k, Accepted.suits-inside (call (begun k)) (given (begun k)) (p k) (d k) (accepted k) (l .rows-to-pass .ensures), served k))
+    (λ c. search needs) (λ c. search needs) refusal (λ c. search needs) (λ c. search needs) never (λ c. search needs)
+    (λ c. search needs) passed)

@@ -19,7 +19,8 @@ use Rattle.itx.specs.declared.Refusal.{Refusal}
 use Rattle.itx.specs.declared.Verdict.{Verdict}
 use Rattle.itx.specs.declared.Verdict.the-variants.{Stop}
 use Rattle.itx.specs.Calls.{Block, Call, lengths-lines, range-line, stray-line, pixel-line, with-depth, short, verdict}
-use Rattle.itx.specs.Answers.{verdict-of, call-of, block, Lies, Enough, RowsIn, Widened, Copied, Ready}
+use Rattle.itx.specs.Answers.{block}
+use Rattle.itx.specs.Inner.{verdict-of, call-of, Lies, Enough, RowsIn, Widened, Copied, Ready}
 use Rattle.itx.specs.Demands as Demands
 use Rattle.itx.proofs.Accepted as Accepted
 use Rattle.itx.proofs.Chain.{roomy}
@@ -72,10 +73,12 @@ module _ (t : tie.After-check-stray-8bpc) where
 
   checked : verdict (call begun) (given begun) ≡ verdict-of (t .check-stray-8bpc .result)
   checked =
-      let range = range-line (begun .args .coeff .now) in
-      let stray = stray-line (call begun) (begun .args .coeff .now) in
-      unasked (known begun) (front begun ++ range ∷ stray ∷ []) (pixel-line (begun .args .dst .now) (place begun)) [] (λ a. above-none (begun .args .dst .now) (place begun) (a .0 .w) (a .1) bytes)
-      ∙ sym (further (front begun ++ range ∷ []) (stray ∷ []) (known begun) (further (front begun) (range ∷ []) (known begun) (placed ranged .check-lengths .ensures .0) (ranged .check-range-8bpc .ensures .0)) (t .check-stray-8bpc .ensures .0))
+      let range = range-line (begun .args .coeff .now) in let stray = stray-line (call begun) (begun .args .coeff .now) in
+      unasked (known begun) (front begun ++ range ∷ stray ∷ []) (pixel-line (begun .args .dst .now) (place begun)) []
+      (λ a. above-none (begun .args .dst .now) (place begun) (a .0 .w) (a .1) bytes)
+      ∙ sym (further (front begun ++ range ∷ []) (stray ∷ []) (known begun)
+      (further (front begun) (range ∷ []) (known begun) (placed ranged .check-lengths .ensures .0)
+      (ranged .check-range-8bpc .ensures .0)) (t .check-stray-8bpc .ensures .0))
 
   lies : Lies (place begun) (t .check-stray-8bpc .result)
   lies =
@@ -105,7 +108,8 @@ module _ (k : tie.After-checked2) where
   ready = Accepted.ready First (call s) (given s) p Eight accepted _ turned
 
   copied : short (call s) p ≡ false → Widened p (s .args .coeff .now) (sought .check-stray-8bpc .last .1 .0)
-  copied = subst (Copied (call s) (s .args .coeff .now) (sought .check-stray-8bpc .last .1 .0)) (k .checked2 .given .1) (sought .check-stray-8bpc .ensures .2)
+  copied = subst (Copied (call s) (s .args .coeff .now) (sought .check-stray-8bpc .last .1 .0)) (k .checked2 .given .1)
+      (sought .check-stray-8bpc .ensures .2)
 
 -- which way it went
 way-is : (o : tie.After-is-short) {t : Bool} → o .is-short .result ≡ t → short (call (s (o .before .before))) (p (o .before .before)) ≡ t
@@ -116,8 +120,9 @@ wide e = copied (e .before .before .before) (way-is (e .before) (e .if1 .left))
 
 refusal : tie.Need-returns-2
 refusal c =
-    let t = c .before .before .before .before in
-    first-meets (call (begun t)) (given (begun t)) refl (Accepted.refusal-left First (call (begun t)) (given (begun t)) (c .before .checked .given .0 .0) (checked t ∙ ap verdict-of (c .before .checked .given .1)))
+    let t = c .before .before .before .before in first-meets (call (begun t)) (given (begun t)) refl
+    (Accepted.refusal-left First (call (begun t)) (given (begun t)) (c .before .checked .given .0 .0)
+    (checked t ∙ ap verdict-of (c .before .checked .given .1)))
 
 -- the plane's check has found a place or stopped
 never : tie.Need-returns-3
@@ -125,56 +130,36 @@ never c = let t = c .before .before .before in absurd (subst (Lies (place (begun
 
 shortened : tie.Need-returns
 shortened c =
-    let o = c .before .before .before .before .before .before in
-    let k = o .before .before .before in
+    let o = c .before .before .before .before .before .before in let k = o .before .before .before in
     first-meets (call (s k)) (given (s k)) refl
-    (Accepted.shortcut-left First (call (s k)) (given (s k)) (p k) Eight (accepted k) _ (turned k) (way-is (o .before) (o .if1 .taken)) (c .before .before .before .by-shortcut-8bpc .ensures))
+    (Accepted.shortcut-left First (call (s k)) (given (s k)) (p k) Eight (accepted k) _ (turned k)
+    (way-is (o .before) (o .if1 .taken)) (c .before .before .before .by-shortcut-8bpc .ensures))
 
 passed : tie.Need-returns-4
 passed c =
-    let o = c .before .before .before in
-    let l = o .before .before .before .before in
-    let e = l .before .before in
-    let k = e .before .before .before in
-    first-meets (call (s k)) (given (s k)) refl
-    (Accepted.passes-left First (call (s k)) (given (s k)) (p k) Eight (accepted k) _ (turned k) (l .rows-to-pass .result) (way-is (e .before) (e .if1 .left)) (suits-copy (wide e) (call (s k)) _ (l .rows-to-pass .ensures)) (o .by-passes-8bpc .ensures))
+    let o = c .before .before .before in let l = o .before .before .before .before in let e = l .before .before in
+    let k = e .before .before .before in first-meets (call (s k)) (given (s k)) refl
+    (Accepted.passes-left First (call (s k)) (given (s k)) (p k) Eight (accepted k) _ (turned k) (l .rows-to-pass .result)
+    (way-is (e .before) (e .if1 .left)) (suits-copy (wide e) (call (s k)) _ (l .rows-to-pass .ensures)) (o .by-passes-8bpc .ensures))
 
 pub transform-in-spec : {M : Type 1} → statement M
 transform-in-spec =
-    tie.close
-    (tie.spec
-    (λ c κs. search needs)
-    (λ c κs. c .before .check-lengths .ensures .3)
-    (λ c κs.
-    let r = c .before .before in
-    let l = placed r in
-    let a = start r in (
+    tie.close (tie.spec (λ c κs. search needs) (λ c κs. c .before .check-lengths .ensures .3) (λ c κs.
+    let r = c .before .before in let l = placed r in let a = start r in (
       still r (Enough _) (λ x. tt) (l .check-lengths .ensures .3),
-      still r (Enough _) (λ x. tt) (roomy (plan (a .args .w) (a .args .h) (a .args .txtp)) 8 _ (front a) (place a) (l .check-lengths .result) (a .pre) (l .check-lengths .ensures .1) (l .check-lengths .ensures .0)),
+      still r (Enough _) (λ x. tt)
+          (roomy (plan (a .args .w) (a .args .h) (a .args .txtp)) 8 _ (front a) (place a) (l .check-lengths .result) (a .pre)
+          (l .check-lengths .ensures .1) (l .check-lengths .ensures .0)),
       still r (RowsIn (call a)) (λ x. tt) (l .check-lengths .ensures .4),
-    ))
-    (λ c. search needs)
-    (λ c. search needs)
-    (λ c. search needs)
-    (λ c κs. search needs)
-    (λ c κs. ready (c .before .before .before .before .before))
-    (λ c. search needs)
-    (λ c. search needs)
-    (λ c. search needs)
-    shortened
+    )) (λ c. search needs) (λ c. search needs) (λ c. search needs) (λ c κs. search needs)
+    (λ c κs. ready (c .before .before .before .before .before)) (λ c. search needs) (λ c. search needs)
+    (λ c. search needs) shortened
     (λ c κs. let e = c .before in let k = e .before .before .before in (wide e .room, h-positive (given (s k)) (p k) Eight (call (s k)) (accepted k)))
     (λ c κs.
-    let l = c .before .before .before in
-    let e = l .before .before in
-    let k = e .before .before .before in
-    (ready k, Accepted.suits-inside (call (s k)) (given (s k)) (p k) Eight (accepted k) (suits-copy (wide e) (call (s k)) _ (l .rows-to-pass .ensures)), wide e))
-    (λ c. search needs)
-    (λ c. search needs)
-    refusal
-    (λ c. search needs)
-    (λ c. search needs)
-    never
-    (λ c. search needs)
-    (λ c. search needs)
-    (λ c. search needs)
-    passed)
+    let l = c .before .before .before in let e = l .before .before in let k = e .before .before .before in (
+      ready k,
+      Accepted.suits-inside (call (s k)) (given (s k)) (p k) Eight (accepted k)
+          (suits-copy (wide e) (call (s k)) _ (l .rows-to-pass .ensures)),
+      wide e,
+    )) (λ c. search needs) (λ c. search needs) refusal (λ c. search needs) (λ c. search needs) never (λ c. search needs)
+    (λ c. search needs) (λ c. search needs) passed)

@@ -40,8 +40,7 @@ module _ (s : tie.Start) where
 
 adst4-requires : tie.Need-adst4-requires
 adst4-requires c κs =
-    let s = start c in
-    record { a-small = asked s 0 tt; b-small = asked s 1 tt; c-small = asked s 2 tt; d-small = asked s 3 tt }
+    let s = start c in record { a-small = asked s 0 tt; b-small = asked s 1 tt; c-small = asked s 2 tt; d-small = asked s 3 tt }
 
 module _ (c : tie.After-adst4) where
   abbrev s : tie.Start
@@ -61,10 +60,12 @@ module _ (c : tie.After-adst4) where
   inputs-small (suc (suc (suc zero))) = small s 3 tt
   inputs-small (suc (suc (suc (suc i)))) = omega arith
 
-  value : (j : ℕ) → toZ w32 (ofZ w32 (at (c .adst4 .result .0 ∷ c .adst4 .result .1 ∷ c .adst4 .result .2 ∷ c .adst4 .result .3 ∷ []) j)) ≡ at values j
+  value : (j : ℕ) → toZ w32
+      (ofZ w32 (at (c .adst4 .result .0 ∷ c .adst4 .result .1 ∷ c .adst4 .result .2 ∷ c .adst4 .result .3 ∷ []) j)) ≡ at values j
   value j =
       let v = c .adst4 .ensures ∙ (λ i. av1-adst (s .args .backwards) (held s 0 tt i ∷ held s 1 tt i ∷ held s 2 tt i ∷ held s 3 tt i ∷ [])) in
-      (λ i. toZ w32 (ofZ w32 (at (v i) j))) ∙ toZ-ofZ w32 (at values j) (abs-fits {n = 2621442} (adst-small (s .args .backwards) inputs 524288 inputs-small j) tt)
+      (λ i. toZ w32 (ofZ w32 (at (v i) j)))
+      ∙ toZ-ofZ w32 (at values j) (abs-fits {n = 2621442} (adst-small (s .args .backwards) inputs 524288 inputs-small j) tt)
 
 abbrev called : tie.After-struct-told4 → tie.After-adst4
 called c = c .before .before .before .before
@@ -72,38 +73,22 @@ called c = c .before .before .before .before
 returns : tie.Need-returns
 unfolding put
 returns c =
-    let e = called c in
-    let b = s e in
-    λ i. set (set (set (set (b .args .c .now) (0 * b .args .stride) (value e 0 i)) (1 * b .args .stride) (value e 1 i)) (2 * b .args .stride) (value e 2 i)) (3 * b .args .stride) (value e 3 i)
+    let e = called c in let b = s e in
+    λ i. set (set (set (set (b .args .c .now) (0 * b .args .stride) (value e 0 i)) (1 * b .args .stride) (value e 1 i))
+    (2 * b .args .stride) (value e 2 i)) (3 * b .args .stride) (value e 3 i)
 
 pub adst-spec : {M : Type 1} → statement M
 adst-spec =
-    tie.close
-    (tie.spec
-    (λ c. omega arith)
-    (λ c. omega arith)
-    (λ c. in-slice c 0 tt)
-    (λ c. omega (arith, in-slice (c .before) 1 tt))
-    (λ c. omega (arith, in-slice (c .before) 1 tt))
-    (λ c. in-slice (c .before) 1 tt)
-    (λ c. omega (arith, in-slice (c .before .before) 2 tt))
-    (λ c. omega (arith, in-slice (c .before .before) 2 tt))
-    (λ c. in-slice (c .before .before) 2 tt)
+    tie.close (tie.spec (λ c. omega arith) (λ c. omega arith) (λ c. in-slice c 0 tt)
+    (λ c. omega (arith, in-slice (c .before) 1 tt)) (λ c. omega (arith, in-slice (c .before) 1 tt))
+    (λ c. in-slice (c .before) 1 tt) (λ c. omega (arith, in-slice (c .before .before) 2 tt))
+    (λ c. omega (arith, in-slice (c .before .before) 2 tt)) (λ c. in-slice (c .before .before) 2 tt)
     (λ c. omega (arith, in-slice (c .before .before .before) 3 tt))
     (λ c. omega (arith, in-slice (c .before .before .before) 3 tt))
-    (λ c. in-slice (c .before .before .before) 3 tt)
-    adst4-requires
-    (λ c. omega arith)
-    (λ c. omega arith)
-    (λ c. in-slice (s (called c)) 0 tt)
-    (λ c. omega (arith, in-slice (s (called c)) 1 tt))
-    (λ c. omega (arith, in-slice (s (called c)) 1 tt))
-    (λ c. simp length-set (in-slice (s (called c)) 1 tt))
-    (λ c. omega (arith, in-slice (s (called c)) 2 tt))
-    (λ c. omega (arith, in-slice (s (called c)) 2 tt))
-    (λ c. simp length-set (in-slice (s (called c)) 2 tt))
-    (λ c. omega (arith, in-slice (s (called c)) 3 tt))
-    (λ c. omega (arith, in-slice (s (called c)) 3 tt))
-    (λ c. simp length-set (in-slice (s (called c)) 3 tt))
-    (λ c. simp length-set)
-    returns)
+    (λ c. in-slice (c .before .before .before) 3 tt) adst4-requires (λ c. omega arith) (λ c. omega arith)
+    (λ c. in-slice (s (called c)) 0 tt) (λ c. omega (arith, in-slice (s (called c)) 1 tt))
+    (λ c. omega (arith, in-slice (s (called c)) 1 tt)) (λ c. simp length-set (in-slice (s (called c)) 1 tt))
+    (λ c. omega (arith, in-slice (s (called c)) 2 tt)) (λ c. omega (arith, in-slice (s (called c)) 2 tt))
+    (λ c. simp length-set (in-slice (s (called c)) 2 tt)) (λ c. omega (arith, in-slice (s (called c)) 3 tt))
+    (λ c. omega (arith, in-slice (s (called c)) 3 tt)) (λ c. simp length-set (in-slice (s (called c)) 3 tt))
+    (λ c. simp length-set) returns)

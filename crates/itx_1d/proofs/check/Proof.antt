@@ -15,8 +15,7 @@ use Rattle.itx_1d.proofs.check.Tie as tie
 
 check-elements-requires : tie.Need-check-elements-requires
 check-elements-requires c κs =
-    let s = c .before in
-    record {
+    let s = c .before in record {
       inside = λ b e j h.
           let u = placed (s .args .before) (eqb (s .args .stride) 0) _ (sym (c .check-place .ensures) ∙ e) in
           in-reach (s .args .c .now) (s .args .n) (s .args .stride) (u .1) j (le-trans h (s .pre .1));
@@ -24,12 +23,9 @@ check-elements-requires c κs =
 
 returns : tie.Need-returns
 returns c =
-    let p = c .before in
-    let s = p .before in
-    let lo = toZ-ofZ w32 (s .args .min) (s .fits .min) in
-    let hi = toZ-ofZ w32 (s .args .max) (s .fits .max) in
-    c .check-elements .ensures
-    ∙ (λ k. after (p .check-place .ensures k) (element-check (first (s .args .looked) (λ i. outside (at (s .args .c .now) (i * s .args .stride)) (lo k) (hi k)))))
+    let p = c .before in let s = p .before in let lo = toZ-ofZ w32 (s .args .min) (s .fits .min) in
+    let hi = toZ-ofZ w32 (s .args .max) (s .fits .max) in c .check-elements .ensures ∙ (λ k. after (p .check-place .ensures k)
+    (element-check (first (s .args .looked) (λ i. outside (at (s .args .c .now) (i * s .args .stride)) (lo k) (hi k)))))
 
 pub check-spec : {M : Type 1} → statement M
 check-spec = tie.close (tie.spec (λ c κs. not-0 (c .args .n) (c .pre .0)) check-elements-requires returns)

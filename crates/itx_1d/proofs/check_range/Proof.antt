@@ -21,7 +21,8 @@ small z t = abs-fits (le-refl (natAbs z)) t
 -- the test of one m
 is : (s : tie.Start) (m : ℕ) → T (ltb (natAbs (low m)) (2 ^ hbits w32)) → T (ltb (natAbs (high m)) (2 ^ hbits w32))
     → eqb (ofZ w32 (s .args .min)) (ofZ w32 (low m)) && eqb (ofZ w32 (s .args .max)) (ofZ w32 (high m)) ≡ is-range (s .args .min) (s .args .max) m
-is s m t u = λ i. same-bits (s .args .min) (low m) (s .fits .min) (small (low m) t) i && same-bits (s .args .max) (high m) (s .fits .max) (small (high m) u) i
+is s m t u = λ i. same-bits (s .args .min) (low m) (s .fits .min) (small (low m) t) i && same-bits (s .args .max) (high m)
+    (s .fits .max) (small (high m) u) i
 
 -- the whole test
 abbrev good : tie.Start → Bool
@@ -34,11 +35,7 @@ tested : (s : tie.Start) (t : Bool)
     → good s ≡ t
 tested s t e = sym (λ i. (is s 32768 tt tt i || is s 131072 tt tt i) || is s 524288 tt tt i) ∙ e
 
-returns : tie.Need-returns
-returns c = λ i. cond (not (sym (tested (c .before) true (c .if1 .taken)) i)) Range (Done false)
-
-returns-2 : tie.Need-returns-2
-returns-2 c = λ i. cond (not (sym (tested (c .before) false (c .if1 .left)) i)) Range (Done false)
-
 pub check-range-spec : {M : Type 1} → statement M
-check-range-spec = tie.close (tie.spec returns returns-2)
+check-range-spec = tie.close
+    (tie.spec (λ c. λ i. cond (not (sym (tested (c .before) true (c .if1 .taken)) i)) Range (Done false))
+    (λ c. λ i. cond (not (sym (tested (c .before) false (c .if1 .left)) i)) Range (Done false)))

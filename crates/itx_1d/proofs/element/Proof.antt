@@ -44,14 +44,7 @@ returns-2 c =
 
 pub element-spec : {M : Type 1} → statement M
 element-spec =
-    tie.close
-    (tie.spec
-    returns
-    (λ c. let s = c .before in omega (arith, not-0 (s .args .n) (s .pre .0 .is-length)))
-    (λ c. omega (arith, here (c .before) .in-table))
-    (λ c. omega (arith, here (c .before) .in-table))
-    (λ c. record { fits = byte (c .before) })
-    (λ c. omega (arith, there (c .before)))
-    (λ c. omega (arith, there (c .before)))
-    (λ c. omega (arith, there (c .before)))
-    returns-2)
+    tie.close (tie.spec returns (λ c. let s = c .before in omega (arith, not-0 (s .args .n) (s .pre .0 .is-length)))
+    (λ c. omega (arith, here (c .before) .in-table)) (λ c. omega (arith, here (c .before) .in-table))
+    (λ c. record { fits = byte (c .before) }) (λ c. omega (arith, there (c .before)))
+    (λ c. omega (arith, there (c .before))) (λ c. omega (arith, there (c .before))) returns-2)

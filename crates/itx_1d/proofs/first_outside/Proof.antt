@@ -26,23 +26,23 @@ there c = c .before .before .pre (c .before .loop .i) (c .loop-test .taken)
 
 -- what the test of element i says, of the ends as they are held
 held : (c : tie.After-outside Inv-loop μ-loop) → let h = c .before .before .before in let s = h .before in
-    c .outside .result ≡ outside (at (s .args .c .now) (h .loop .i * s .args .stride)) (toZ w32 (ofZ w32 (s .args .min))) (toZ w32 (ofZ w32 (s .args .max)))
+    c .outside .result ≡ outside (at (s .args .c .now) (h .loop .i * s .args .stride)) (toZ w32 (ofZ w32 (s .args .min)))
+    (toZ w32 (ofZ w32 (s .args .max)))
 held c =
-    let v = c .before in
-    let h = v .before .before in
-    let s = h .before in
-    c .outside .ensures ∙ (λ k. outside (toZ-ofZ w32 (at (s .args .c .now) (h .loop .i * s .args .stride)) (record { sfits = v .v .given }) k) (toZ w32 (ofZ w32 (s .args .min))) (toZ w32 (ofZ w32 (s .args .max))))
+    let v = c .before in let h = v .before .before in let s = h .before in c .outside .ensures ∙ (λ k. outside
+    (toZ-ofZ w32 (at (s .args .c .now) (h .loop .i * s .args .stride)) (record { sfits = v .v .given }) k)
+    (toZ w32 (ofZ w32 (s .args .min))) (toZ w32 (ofZ w32 (s .args .max))))
 
 -- the same, of the ends themselves
-plain : (s : tie.Start Inv-loop μ-loop) (z : ℤ) → outside z (toZ w32 (ofZ w32 (s .args .min))) (toZ w32 (ofZ w32 (s .args .max))) ≡ outside z (s .args .min) (s .args .max)
+plain : (s : tie.Start Inv-loop μ-loop) (z : ℤ)
+    → outside z (toZ w32 (ofZ w32 (s .args .min))) (toZ w32 (ofZ w32 (s .args .max))) ≡ outside z (s .args .min) (s .args .max)
 plain s z = λ k. outside z (toZ-ofZ w32 (s .args .min) (s .fits .min) k) (toZ-ofZ w32 (s .args .max) (s .fits .max) k)
 
 returns : tie.Need-returns Inv-loop μ-loop
 returns c =
-    let h = c .before .before .before .before in
-    let s = h .before in
-    sym (first-found (s .args .n) (λ i. outside (at (s .args .c .now) (i * s .args .stride)) (s .args .min) (s .args .max)) (h .loop .i) (c .before .before .before .loop-test .taken)
-    (sym (plain s _) ∙ sym (held (c .before)) ∙ c .if1 .taken)
+    let h = c .before .before .before .before in let s = h .before in
+    sym (first-found (s .args .n) (λ i. outside (at (s .args .c .now) (i * s .args .stride)) (s .args .min) (s .args .max))
+    (h .loop .i) (c .before .before .before .loop-test .taken) (sym (plain s _) ∙ sym (held (c .before)) ∙ c .if1 .taken)
     (λ k l. sym (plain s _) ∙ h .loop .inv .1 k l))
 
 loop-again : tie.Need-loop-again Inv-loop μ-loop
@@ -52,23 +52,12 @@ loop-again c =
 
 returns-2 : tie.Need-returns-2 Inv-loop μ-loop
 returns-2 c =
-    let h = c .before in
-    let s = h .before in
-    sym (none-first (s .args .n) (λ i. outside (at (s .args .c .now) (i * s .args .stride)) (s .args .min) (s .args .max)) (λ k l. sym (plain s _) ∙ h .loop .inv .1 k (omega arith)))
+    let h = c .before in let s = h .before in
+    sym (none-first (s .args .n) (λ i. outside (at (s .args .c .now) (i * s .args .stride)) (s .args .min) (s .args .max))
+    (λ k l. sym (plain s _) ∙ h .loop .inv .1 k (omega arith)))
 
 pub first-outside-spec : {M : Type 1} → statement M
 first-outside-spec =
-    tie.close
-    (tie.spec
-    Inv-loop
-    μ-loop
-    (λ c. (omega arith, λ k h. let f : ⊥ = omega arith in absurd f))
-    (λ c. omega (arith, there c))
-    (λ c. omega (arith, there c))
-    (λ c. there c)
-    (λ c κs. tt)
-    returns
-    (λ c. omega arith)
-    (λ c. omega arith)
-    loop-again
-    returns-2)
+    tie.close (tie.spec Inv-loop μ-loop (λ c. (omega arith, λ k h. let f : ⊥ = omega arith in absurd f))
+    (λ c. omega (arith, there c)) (λ c. omega (arith, there c)) (λ c. there c) (λ c κs. tt) returns (λ c. omega arith)
+    (λ c. omega arith) loop-again returns-2)

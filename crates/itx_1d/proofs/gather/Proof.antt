@@ -10,7 +10,7 @@ use lib.ListN.{set, replicate}
 use mir.Syntax.{w32}
 use mir.ValLaws.{toZ-ofZ}
 use Rattle.whole.specs.Lists.{at, tab}
-use Rattle.av1.specs.Sides.{side}
+use Rattle.levels.specs.Sides.{side}
 use Rattle.itx_1d.specs.Calls.{taken}
 use Rattle.itx_1d.specs.Inner.{source, read}
 use Rattle.itx_1d.proofs.Strides.{at-most-32, one-more}
@@ -32,30 +32,21 @@ below c = let s = c .before .before in omega (arith, at-most-32 (s .args .n) (s 
 
 loop-again : tie.Need-loop-again Inv-loop μ-loop
 loop-again c =
-    let e = c .before in
-    let h = e .before in
-    let s = h .before in
-    let v = toZ-ofZ w32 (c .element .result) (record { sfits = c .element .ok }) ∙ c .element .ensures in
-    ((λ k. set (h .loop .inv .0 k) (h .loop .i) (v k)) ∙ one-more (h .loop .i) (element (s .args .c .now) (s .args .stride) (s .args .n) (s .args .tx64)) (below e), omega arith)
+    let e = c .before in let h = e .before in let s = h .before in
+    let v = toZ-ofZ w32 (c .element .result) (record { sfits = c .element .ok }) ∙ c .element .ensures in (
+      (λ k. set (h .loop .inv .0 k) (h .loop .i) (v k))
+          ∙ one-more (h .loop .i) (element (s .args .c .now) (s .args .stride) (s .args .n) (s .args .tx64)) (below e),
+      omega arith,
+    )
 
 returns : tie.Need-returns Inv-loop μ-loop
 returns c =
-    let h = c .before in
-    let s = h .before in
-    let all : h .loop .i ≡ s .args .n = omega arith in
-    h .loop .inv .0 ∙ ap (λ (k : ℕ). tab k (element (s .args .c .now) (s .args .stride) (s .args .n) (s .args .tx64)) ++ replicate (32 - k) (pos 0)) all
+    let h = c .before in let s = h .before in let all : h .loop .i ≡ s .args .n = omega arith in
+    h .loop .inv .0 ∙ ap (λ (k : ℕ). tab k (element (s .args .c .now) (s .args .stride) (s .args .n) (s .args .tx64))
+    ++ replicate (32 - k) (pos 0)) all
 
 pub gather-spec : {M : Type 1} → statement M
 gather-spec =
-    tie.close
-    (tie.spec
-    Inv-loop
-    μ-loop
-    (λ c. (c .pre .1, omega arith))
-    (λ c κs. (c .before .before .pre .0, c .loop-test .taken))
-    (λ c. omega (arith, below (c .before)))
-    (λ c. omega (arith, below (c .before)))
-    (λ c. omega arith)
-    (λ c. omega arith)
-    loop-again
-    returns)
+    tie.close (tie.spec Inv-loop μ-loop (λ c. (c .pre .1, omega arith))
+    (λ c κs. (c .before .before .pre .0, c .loop-test .taken)) (λ c. omega (arith, below (c .before)))
+    (λ c. omega (arith, below (c .before))) (λ c. omega arith) (λ c. omega arith) loop-again returns)

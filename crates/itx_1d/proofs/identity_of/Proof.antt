@@ -8,7 +8,7 @@ use mir.Syntax.{w32}
 use mir.Val.{SFits, toZ, ofZ}
 use Rattle.whole.specs.Numbers.{_>>_, round2}
 use Rattle.whole.proofs.Machine.{E, var, lit, _⊕_, _⊛_, _≫_, ok, raw, ev, need, reads}
-use Rattle.av1.specs.Sides.{Side, of4, of8, of16, of32, side}
+use Rattle.levels.specs.Sides.{Side, of4, of8, of16, of32, side}
 use Rattle.itx_1d.specs.Passes.{identity}
 use Rattle.itx_1d.proofs.Through.{sided-32}
 use Rattle.itx_1d.proofs.identity_of.Statement.{statement}
@@ -47,22 +47,13 @@ returns-3 c = let s = c .before in is s of-16 tt ∙ as-side s of16 (ap side (c 
 
 returns-4 : tie.Need-returns-4
 unfolding identity
-returns-4 c = let s = c .before in is s (var 0 ⊛ lit (pos 4)) tt ∙ as-side s of32 (sided-32 (s .args .n) (c .match .rest .0 .0 .1) (c .match .rest .0 .1) (c .match .rest .1))
+returns-4 c = let s = c .before in is s (var 0 ⊛ lit (pos 4)) tt
+    ∙ as-side s of32 (sided-32 (s .args .n) (c .match .rest .0 .0 .1) (c .match .rest .0 .1) (c .match .rest .1))
 
 pub identity-of-spec : {M : Type 1} → statement M
 identity-of-spec =
-    tie.close
-    (tie.spec
-    (λ c. fits (c .before) scaled tt)
-    (λ c. fits (c .before) (scaled ⊕ lit (pos 2048)) tt)
-    (λ c. fits (c .before) of-4 tt)
-    (λ c. fits (c .before) (var 0 ⊛ lit (pos 2)) tt)
-    (λ c. fits (c .before) (var 0 ⊛ lit (pos 2)) tt)
-    (λ c. fits (c .before) scaled tt)
-    (λ c. fits (c .before) (scaled ⊕ lit (pos 1024)) tt)
-    (λ c. fits (c .before) of-16 tt)
-    (λ c. fits (c .before) (var 0 ⊛ lit (pos 4)) tt)
-    returns
-    returns-2
-    returns-3
-    returns-4)
+    tie.close (tie.spec (λ c. fits (c .before) scaled tt) (λ c. fits (c .before) (scaled ⊕ lit (pos 2048)) tt)
+    (λ c. fits (c .before) of-4 tt) (λ c. fits (c .before) (var 0 ⊛ lit (pos 2)) tt)
+    (λ c. fits (c .before) (var 0 ⊛ lit (pos 2)) tt) (λ c. fits (c .before) scaled tt)
+    (λ c. fits (c .before) (scaled ⊕ lit (pos 1024)) tt) (λ c. fits (c .before) of-16 tt)
+    (λ c. fits (c .before) (var 0 ⊛ lit (pos 4)) tt) returns returns-2 returns-3 returns-4)

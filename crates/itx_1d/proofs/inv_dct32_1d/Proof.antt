@@ -1,7 +1,7 @@
 -- `itx_1d::inv_dct32_1d` meets its contract.
 use borrow.Author.Needs.{needs}
-use Rattle.av1.specs.Sides.{of32}
-use Rattle.itx_1d.specs.declared.Kind.the-variants.{Dct}
+use Rattle.levels.specs.Sides.{of32}
+use Rattle.levels.specs.declared.Kind.the-variants.{Dct}
 use Rattle.itx_1d.specs.Calls.{ranged}
 use Rattle.itx_1d.proofs.Accepted.{plain}
 use Rattle.itx_1d.proofs.inv_dct32_1d.Statement.{statement}

@@ -1,6 +1,6 @@
 -- `itx_1d::inv_dct32_half_1d` meets its contract.
 use borrow.Author.Needs.{needs}
-use Rattle.av1.specs.Sides.{of32}
+use Rattle.levels.specs.Sides.{of32}
 use Rattle.itx_1d.specs.Calls.{halved}
 use Rattle.itx_1d.proofs.Accepted.{plain}
 use Rattle.itx_1d.proofs.inv_dct32_half_1d.Statement.{statement}

@@ -12,14 +12,15 @@ use types.Run.{OneOf}
 use borrow.Author.Needs.{needs}
 use Rattle.whole.specs.Numbers.{outside, low, high}
 use Rattle.whole.specs.Lists.{at, first}
-use Rattle.av1.specs.Sides.{of4}
-use Rattle.itx_1d.specs.declared.Kind.the-variants.{Wht}
+use Rattle.levels.specs.Sides.{of4}
+use Rattle.levels.specs.declared.Kind.the-variants.{Wht}
 use Rattle.itx_1d.specs.declared.Pass.{Pass}
 use Rattle.itx_1d.specs.declared.Pass.the-variants.{Done}
-use Rattle.itx_1d.specs.Calls.{Outcome, accepted, unranged, Meets}
+use Rattle.whole.specs.Answers.{Outcome}
+use Rattle.itx_1d.specs.Calls.{accepted, unranged, Meets}
 use Rattle.itx_1d.specs.Passes.{pass}
 use Rattle.itx_1d.specs.Inner.{PassIs}
-use Rattle.itx_1d.proofs.Accepted.{verdict, defined, Good, good, accepted-is, refused-is, seen, done, any-range}
+use Rattle.itx_1d.proofs.Accepted.{defined, Good, good, accepted-is, refused-is, seen, done, any-range}
 use Rattle.itx_1d.proofs.Pass.{the-type}
 use Rattle.itx_1d.proofs.inv_wht4_1d.Statement.{statement}
 use Rattle.itx_1d.proofs.inv_wht4_1d.Tie as tie
@@ -46,41 +47,33 @@ start e = e .before .before
 
 returns : tie.Need-returns
 returns c =
-    let e = c .before in
-    let s = start e in
-    let is = e .check .ensures in
-    let meets = refused-is false (none-apart s) (short s) (offender s) (s .args .c .now) (out s) (subst (λ (p : Pass). OneOf (1 ∷ 2 ∷ 3 ∷ 4 ∷ []) (tagOf the-type p)) is (c .match .keys2)) in
-    subst⁻¹ (λ (o : Outcome). Meets o (e .check .result) (s .args .c .now)) (defined-is s) (subst⁻¹ (λ (p : Pass). Meets (defined false (none-apart s) (short s) (offender s) (s .args .c .now) (out s)) p (s .args .c .now)) is meets)
+    let e = c .before in let s = start e in let is = e .check .ensures in
+    let meets = refused-is false (none-apart s) (short s) (offender s) (s .args .c .now) (out s)
+    (subst (λ (p : Pass). OneOf (1 ∷ 2 ∷ 3 ∷ 4 ∷ []) (tagOf the-type p)) is (c .match .keys2)) in
+    subst⁻¹ (λ (o : Outcome). Meets o (e .check .result) (s .args .c .now)) (defined-is s)
+    (subst⁻¹ (λ (p : Pass). Meets (defined false (none-apart s) (short s) (offender s) (s .args .c .now) (out s)) p
+    (s .args .c .now)) is meets)
 
 -- where all went well
 all-good : (t : tie.After-enum-told) → let s = start (t .before .before) in Good false (none-apart s) (short s) (offender s)
 all-good t =
-    let e = t .before .before in
-    let s = start e in
+    let e = t .before .before in let s = start e in
     good false (none-apart s) (short s) (offender s) (sym (e .check .ensures) ∙ t .enum-told .given .1)
 
 wht4-requires : tie.Need-wht4-requires
 wht4-requires c κs =
-    let t = c .before in
-    let s = start (t .before .before) in
+    let t = c .before in let s = start (t .before .before) in
     seen (s .args .c .now) (s .args .stride) 4 4 (low 16777216) (high 16777216) refl (omega arith) (omega arith) (all-good t)
 
 returns-2 : tie.Need-returns-2
 returns-2 c =
-    let d = c .before in
-    let t = d .before .before in
-    let s = start (t .before .before) in
+    let d = c .before in let t = d .before .before in let s = start (t .before .before) in
     let is : PassIs Wht 4 (s .args .stride) 16777216 (s .args .c .now) (d .wht4 .last .0) false = any-range (d .wht4 .ensures) in
-    subst⁻¹ (λ (o : Outcome). Meets o (Done false) (d .wht4 .last .0)) (defined-is s ∙ accepted-is (s .args .c .now) (out s) (all-good t)) (done (pass Wht of4 16777216) 4 (s .args .stride) (s .args .c .now) refl (is .elements) (is .mark))
+    subst⁻¹ (λ (o : Outcome). Meets o (Done false) (d .wht4 .last .0))
+    (defined-is s ∙ accepted-is (s .args .c .now) (out s) (all-good t))
+    (done (pass Wht of4 16777216) 4 (s .args .stride) (s .args .c .now) refl (is .elements) (is .mark))
 
 pub inv-wht4-1d-spec : {M : Type 1} → statement M
 inv-wht4-1d-spec =
-    tie.close
-    (tie.spec
-    (λ c κs. search needs)
-    (λ c. search needs)
-    (λ c. search needs)
-    returns
-    wht4-requires
-    (λ c. search needs)
-    returns-2)
+    tie.close (tie.spec (λ c κs. search needs) (λ c. search needs) (λ c. search needs) returns wht4-requires
+    (λ c. search needs) returns-2)

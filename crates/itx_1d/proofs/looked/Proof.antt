@@ -8,7 +8,5 @@ use Rattle.itx_1d.proofs.looked.Tie as tie
 
 pub looked-spec : {M : Type 1} → statement M
 looked-spec =
-    tie.close
-    (tie.spec
-    (λ c. ap (λ (b : Bool). looked b (c .before .args .n)) (sym (c .if1 .taken)))
+    tie.close (tie.spec (λ c. ap (λ (b : Bool). looked b (c .before .args .n)) (sym (c .if1 .taken)))
     (λ c. ap (λ (b : Bool). looked b (c .before .args .n)) (sym (c .if1 .left))))

@@ -16,13 +16,14 @@ use borrow.Author.Needs.{needs}
 use Rattle.whole.specs.Numbers.{outside}
 use Rattle.whole.specs.Lists.{at, first}
 use Rattle.whole.proofs.Held.{to2}
-use Rattle.av1.specs.Sides.{side}
+use Rattle.levels.specs.Sides.{side}
 use Rattle.itx_1d.specs.declared.Pass.{Pass}
 use Rattle.itx_1d.specs.declared.Pass.the-variants.{Done}
 use Rattle.itx_1d.specs.Passes.{Passed}
-use Rattle.itx_1d.specs.Calls.{Outcome, taken, put, bad-range, accepted, Meets}
+use Rattle.whole.specs.Answers.{Outcome}
+use Rattle.itx_1d.specs.Calls.{taken, put, bad-range, accepted, Meets}
 use Rattle.itx_1d.specs.Inner.{range-check, checked, looked, called, Seen, Ranged, Passable, Passing, PassIs, DctIs}
-use Rattle.itx_1d.proofs.Manners.{most-ranged}
+use Rattle.itx_1d.proofs.Most.{most-ranged}
 use Rattle.itx_1d.proofs.Accepted.{verdict, defined, Good, good, accepted-is, refused-is, seen, ranged-of, passed, called-is, done}
 use Rattle.itx_1d.proofs.Pass.{the-type}
 use Rattle.itx_1d.proofs.Through.{not-more, ends-of}
@@ -52,10 +53,12 @@ module _ (s : tie.Start) where
   wanted = called (s .args .tx64) (s .args .kind) (side (s .args .n)) (s .args .c .now) (s .args .stride) (s .args .min) (s .args .max)
 
   defined-is : wanted ≡ defined range none-apart short offender (s .args .c .now) out
-  defined-is = called-is (s .args .tx64) (s .args .kind) (s .args .n) (s .args .c .now) (s .args .stride) (s .args .min) (s .args .max) (s .pre .is-length)
+  defined-is = called-is (s .args .tx64) (s .args .kind) (s .args .n) (s .args .c .now) (s .args .stride) (s .args .min)
+      (s .args .max) (s .pre .is-length)
 
   -- where all went well, and the pass is that of the call
-  pub as-called : (tx64 : Bool) {d : List ℤ} {r : Bool} → s .args .tx64 ≡ tx64 → Good range none-apart short offender → d ≡ put (s .args .c .now) (s .args .stride) (by tx64 (taken (s .args .c .now) (s .args .stride) (s .args .n)) .values) (s .args .n)
+  pub as-called : (tx64 : Bool) {d : List ℤ} {r : Bool} → s .args .tx64 ≡ tx64 → Good range none-apart short offender
+      → d ≡ put (s .args .c .now) (s .args .stride) (by tx64 (taken (s .args .c .now) (s .args .stride) (s .args .n)) .values) (s .args .n)
       → r ≡ by tx64 (taken (s .args .c .now) (s .args .stride) (s .args .n)) .mark → Meets wanted (Done r) d
   as-called tx64 {d} {r} e g p q =
       let met = done (by tx64) (s .args .n) (s .args .stride) (s .args .c .now) (s .pre .is-length) p q in
@@ -68,19 +71,19 @@ start e = e .before .before .before .before
 -- the code's checks are the four tests
 checked-is : (e : tie.After-check) → let s = start e in e .check .result ≡ verdict (range s) (none-apart s) (short s) (offender s)
 checked-is e =
-    let s = start e in
-    let lo = toZ-ofZ w32 (s .args .min) (s .fits .min) in
+    let s = start e in let lo = toZ-ofZ w32 (s .args .min) (s .fits .min) in
     let hi = toZ-ofZ w32 (s .args .max) (s .fits .max) in
     let first-one = e .before .before .before .check-range .ensures ∙ (λ k. range-check (bad-range (lo k) (hi k))) in
     e .check .ensures ∙ (λ k. checked (first-one k) (s .args .c .now) (s .args .n) (e .before .looked .ensures k) (s .args .stride) (lo k) (hi k))
 
 returns : tie.Need-returns
 returns c =
-    let e = c .before in
-    let s = start e in
-    let is = checked-is e in
-    let meets = refused-is (range s) (none-apart s) (short s) (offender s) (s .args .c .now) (out s) (subst (λ (p : Pass). OneOf (1 ∷ 2 ∷ 3 ∷ 4 ∷ []) (tagOf the-type p)) is (c .match .keys2)) in
-    subst⁻¹ (λ (o : Outcome). Meets o (e .check .result) (s .args .c .now)) (defined-is s) (subst⁻¹ (λ (p : Pass). Meets (defined (range s) (none-apart s) (short s) (offender s) (s .args .c .now) (out s)) p (s .args .c .now)) is meets)
+    let e = c .before in let s = start e in let is = checked-is e in
+    let meets = refused-is (range s) (none-apart s) (short s) (offender s) (s .args .c .now) (out s)
+    (subst (λ (p : Pass). OneOf (1 ∷ 2 ∷ 3 ∷ 4 ∷ []) (tagOf the-type p)) is (c .match .keys2)) in
+    subst⁻¹ (λ (o : Outcome). Meets o (e .check .result) (s .args .c .now)) (defined-is s)
+    (subst⁻¹ (λ (p : Pass). Meets (defined (range s) (none-apart s) (short s) (offender s) (s .args .c .now) (out s)) p
+    (s .args .c .now)) is meets)
 
 -- where all went well
 module _ (t : tie.After-enum-told) where
@@ -95,7 +98,8 @@ module _ (t : tie.After-enum-told) where
 
   looked-at : Seen (s .args .c .now) (s .args .stride) (s .args .n) (looked (s .args .tx64) (s .args .n)) 524288
   looked-at =
-      seen (s .args .c .now) (s .args .stride) (s .args .n) (looked (s .args .tx64) (s .args .n)) (s .args .min) (s .args .max) (s .pre .is-length) (ends-of in-range .low) (ends-of in-range .high) all-good
+      seen (s .args .c .now) (s .args .stride) (s .args .n) (looked (s .args .tx64) (s .args .n)) (s .args .min) (s .args .max)
+      (s .pre .is-length) (ends-of in-range .low) (ends-of in-range .high) all-good
 
   abbrev seen-by : Bool → Type 0
   seen-by tx64 = Seen (s .args .c .now) (s .args .stride) (s .args .n) (looked tx64 (s .args .n)) 524288
@@ -107,41 +111,28 @@ dct-requires c κs =
 
 returns-2 : tie.Need-returns-2
 returns-2 c =
-    let d = c .before in
-    let t = d .before .before .before in
-    let q = s t in
-    let p = subst (λ (z : ℤ). DctIs true (q .args .n) (q .args .stride) (natAbs z) (q .args .c .now) (d .dct .last .0) (d .dct .result)) (toZ-ofZ w32 (q .args .min) (q .fits .min)) (d .dct .ensures) in
+    let d = c .before in let t = d .before .before .before in let q = s t in
+    let p = subst (λ (z : ℤ). DctIs true (q .args .n) (q .args .stride) (natAbs z) (q .args .c .now) (d .dct .last .0)
+    (d .dct .result)) (toZ-ofZ w32 (q .args .min) (q .fits .min)) (d .dct .ensures) in
     as-called q true (d .before .before .if1 .taken) (all-good t) (p .elements) (p .mark)
 
 inv-1d-requires : tie.Need-inv-1d-requires
 inv-1d-requires c κs =
-    let t = c .before .before in
-    let q = s t in
-    let p = subst (seen-by t) (c .before .if1 .left) (looked-at t) in
+    let t = c .before .before in let q = s t in let p = subst (seen-by t) (c .before .if1 .left) (looked-at t) in
     let able = subst⁻¹ (Passable (q .args .c .now) (q .args .stride) (q .args .n)) (most-ranged (q .args .kind) (q .pre .range)) p in
-    to2 (Passing (q .args .kind) (q .args .c .now) (q .args .n) (q .args .stride)) (q .fits .min) (q .fits .max) (record { lined = q .pre .lined; limited = λ d. in-range t; able = able })
+    to2 (Passing (q .args .kind) (q .args .c .now) (q .args .n) (q .args .stride)) (q .fits .min) (q .fits .max)
+    (record { lined = q .pre .lined; limited = λ d. in-range t; able = able })
 
 returns-3 : tie.Need-returns-3
 returns-3 c =
-    let d = c .before in
-    let t = d .before .before .before in
-    let q = s t in
-    let p = subst (λ (z : ℤ). PassIs (q .args .kind) (q .args .n) (q .args .stride) (natAbs z) (q .args .c .now) (d .inv-1d .last .1 .0) (d .inv-1d .result)) (toZ-ofZ w32 (q .args .min) (q .fits .min)) (d .inv-1d .ensures) in
+    let d = c .before in let t = d .before .before .before in let q = s t in
+    let p = subst (λ (z : ℤ). PassIs (q .args .kind) (q .args .n) (q .args .stride) (natAbs z) (q .args .c .now)
+    (d .inv-1d .last .1 .0) (d .inv-1d .result)) (toZ-ofZ w32 (q .args .min) (q .fits .min)) (d .inv-1d .ensures) in
     as-called q false (d .before .before .if1 .left) (all-good t) (p .elements) (p .mark)
 
 pub ranged-spec : {M : Type 1} → statement M
 ranged-spec =
-    tie.close
-    (tie.spec
-    (λ c κs. search needs)
-    (λ c κs. search needs)
-    (λ c κs. let s = c .before .before .before in (s .pre .is-length, subst⁻¹ (λ (k : ℕ). k ≤ s .args .n) (c .looked .ensures) (not-more (s .args .tx64) (s .args .n))))
-    (λ c. search needs)
-    (λ c. search needs)
-    returns
-    dct-requires
-    (λ c. search needs)
-    returns-2
-    inv-1d-requires
-    (λ c. search needs)
-    returns-3)
+    tie.close (tie.spec (λ c κs. search needs) (λ c κs. search needs) (λ c κs. let s = c .before .before .before in
+    (s .pre .is-length, subst⁻¹ (λ (k : ℕ). k ≤ s .args .n) (c .looked .ensures) (not-more (s .args .tx64) (s .args .n))))
+    (λ c. search needs) (λ c. search needs) returns dct-requires (λ c. search needs) returns-2 inv-1d-requires
+    (λ c. search needs) returns-3)

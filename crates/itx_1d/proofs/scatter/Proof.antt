@@ -23,7 +23,8 @@ there : (c : tie.In-loop Inv-loop μ-loop) → let s = c .before .before in (c .
 there c = c .before .before .pre .inside (c .before .loop .i) (c .loop-test .taken)
 
 there-now : (c : tie.In-loop Inv-loop μ-loop) → (c .before .loop .i) * c .before .before .args .stride < length (c .before .loop .c)
-there-now c = subst (λ (k : ℕ). c .before .loop .i * c .before .before .args .stride < k) (sym (ap length (c .before .loop .inv .0) ∙ length-put _ _ _ (c .before .loop .i))) (there c)
+there-now c = subst (λ (k : ℕ). c .before .loop .i * c .before .before .args .stride < k)
+    (sym (ap length (c .before .loop .inv .0) ∙ length-put _ _ _ (c .before .loop .i))) (there c)
 
 loop-holds : tie.Need-loop-holds Inv-loop μ-loop
 unfolding put
@@ -32,32 +33,23 @@ loop-holds c = (refl, omega arith)
 loop-again : tie.Need-loop-again Inv-loop μ-loop
 unfolding put
 loop-again c =
-    let h = c .before .before in
-    let s = h .before in
-    let w = toZ-ofZ w32 (at (s .args .t .now) (h .loop .i)) (record { sfits = c .v .given }) in
-    ((λ k. set (h .loop .inv .0 k) (h .loop .i * s .args .stride) (w k)) ∙ ap (put (s .args .c .now) (s .args .stride) (s .args .t .now)) (sym (add-one (h .loop .i))), omega arith)
+    let h = c .before .before in let s = h .before in
+    let w = toZ-ofZ w32 (at (s .args .t .now) (h .loop .i)) (record { sfits = c .v .given }) in (
+      (λ k. set (h .loop .inv .0 k) (h .loop .i * s .args .stride) (w k))
+          ∙ ap (put (s .args .c .now) (s .args .stride) (s .args .t .now)) (sym (add-one (h .loop .i))),
+      omega arith,
+    )
 
 returns : tie.Need-returns Inv-loop μ-loop
 returns c =
-    let h = c .before in
-    let s = h .before in
-    let all : h .loop .i ≡ s .args .n = omega arith in
+    let h = c .before in let s = h .before in let all : h .loop .i ≡ s .args .n = omega arith in
     h .loop .inv .0 ∙ ap (put (s .args .c .now) (s .args .stride) (s .args .t .now)) all
 
 pub scatter-spec : {M : Type 1} → statement M
 scatter-spec =
-    tie.close
-    (tie.spec
-    Inv-loop
-    μ-loop
-    loop-holds
+    tie.close (tie.spec Inv-loop μ-loop loop-holds (λ c. omega (arith, at-most-32 _ (c .before .before .pre .is-length)))
     (λ c. omega (arith, at-most-32 _ (c .before .before .pre .is-length)))
-    (λ c. omega (arith, at-most-32 _ (c .before .before .pre .is-length)))
-    (λ c. omega (arith, there (c .before)))
-    (λ c. omega (arith, there (c .before)))
-    (λ c. there-now (c .before))
-    (λ c. omega arith)
-    (λ c. omega arith)
-    loop-again
+    (λ c. omega (arith, there (c .before))) (λ c. omega (arith, there (c .before))) (λ c. there-now (c .before))
+    (λ c. omega arith) (λ c. omega arith) loop-again
     (λ c. ap length (c .before .loop .inv .0) ∙ length-put _ _ _ (c .before .loop .i))
     returns)

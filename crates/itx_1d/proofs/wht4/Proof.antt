@@ -41,7 +41,8 @@ in-slice s j t = s .pre .reaches .inside j (ltb→lt j 4 t)
 
 module _ (s : tie.Start) where
   abbrev ρ : List ℤ
-  ρ = at (s .args .c .now) (0 * s .args .stride) ∷ at (s .args .c .now) (1 * s .args .stride) ∷ at (s .args .c .now) (2 * s .args .stride) ∷ at (s .args .c .now) (3 * s .args .stride) ∷ []
+  ρ = at (s .args .c .now) (0 * s .args .stride) ∷ at (s .args .c .now) (1 * s .args .stride) ∷ at (s .args .c .now)
+      (2 * s .args .stride) ∷ at (s .args .c .now) (3 * s .args .stride) ∷ []
 
   abbrev β : List ℕ
   β = 16777216 ∷ 16777216 ∷ 16777216 ∷ 16777216 ∷ []
@@ -58,46 +59,27 @@ module _ (s : tie.Start) where
 returns : tie.Need-returns
 unfolding put pass wht Rattle.whole.specs.Numbers._>>_
 returns c =
-    let s = start c in
-    record {
-      elements = λ i. set (set (set (set (s .args .c .now) (0 * s .args .stride) (is s (t0 ⊝ t3) tt i)) (1 * s .args .stride) (is s t3 tt i)) (2 * s .args .stride) (is s t1 tt i)) (3 * s .args .stride) (is s (t2 ⊕ t1) tt i);
+    let s = start c in record {
+      elements = λ i. set (set
+          (set (set (s .args .c .now) (0 * s .args .stride) (is s (t0 ⊝ t3) tt i)) (1 * s .args .stride) (is s t3 tt i))
+          (2 * s .args .stride) (is s t1 tt i)) (3 * s .args .stride) (is s (t2 ⊕ t1) tt i);
       mark = refl;
     }
 
 pub wht4-spec : {M : Type 1} → statement M
 wht4-spec =
-    tie.close
-    (tie.spec
-    (λ c. omega arith)
-    (λ c. omega arith)
-    (λ c. in-slice c 0 tt)
-    (λ c. omega (arith, in-slice (c .before) 1 tt))
-    (λ c. omega (arith, in-slice (c .before) 1 tt))
-    (λ c. in-slice (c .before) 1 tt)
-    (λ c. omega (arith, in-slice (c .before .before) 2 tt))
-    (λ c. omega (arith, in-slice (c .before .before) 2 tt))
-    (λ c. in-slice (c .before .before) 2 tt)
+    tie.close (tie.spec (λ c. omega arith) (λ c. omega arith) (λ c. in-slice c 0 tt)
+    (λ c. omega (arith, in-slice (c .before) 1 tt)) (λ c. omega (arith, in-slice (c .before) 1 tt))
+    (λ c. in-slice (c .before) 1 tt) (λ c. omega (arith, in-slice (c .before .before) 2 tt))
+    (λ c. omega (arith, in-slice (c .before .before) 2 tt)) (λ c. in-slice (c .before .before) 2 tt)
     (λ c. omega (arith, in-slice (c .before .before .before) 3 tt))
     (λ c. omega (arith, in-slice (c .before .before .before) 3 tt))
-    (λ c. in-slice (c .before .before .before) 3 tt)
-    (λ c. fits (start c) t0 tt)
-    (λ c. fits (start c) t2 tt)
-    (λ c. fits (start c) (t0 ⊝ t2) tt)
-    (λ c. fits (start c) t3 tt)
-    (λ c. fits (start c) t1 tt)
-    (λ c. fits (start c) (t0 ⊝ t3) tt)
-    (λ c. fits (start c) (t2 ⊕ t1) tt)
-    (λ c. omega arith)
-    (λ c. omega arith)
-    (λ c. in-slice (start c) 0 tt)
-    (λ c. omega (arith, in-slice (start c) 1 tt))
-    (λ c. omega (arith, in-slice (start c) 1 tt))
-    (λ c. simp length-set (in-slice (start c) 1 tt))
-    (λ c. omega (arith, in-slice (start c) 2 tt))
-    (λ c. omega (arith, in-slice (start c) 2 tt))
-    (λ c. simp length-set (in-slice (start c) 2 tt))
-    (λ c. omega (arith, in-slice (start c) 3 tt))
-    (λ c. omega (arith, in-slice (start c) 3 tt))
-    (λ c. simp length-set (in-slice (start c) 3 tt))
-    (λ c. simp length-set)
-    returns)
+    (λ c. in-slice (c .before .before .before) 3 tt) (λ c. fits (start c) t0 tt) (λ c. fits (start c) t2 tt)
+    (λ c. fits (start c) (t0 ⊝ t2) tt) (λ c. fits (start c) t3 tt) (λ c. fits (start c) t1 tt)
+    (λ c. fits (start c) (t0 ⊝ t3) tt) (λ c. fits (start c) (t2 ⊕ t1) tt) (λ c. omega arith) (λ c. omega arith)
+    (λ c. in-slice (start c) 0 tt) (λ c. omega (arith, in-slice (start c) 1 tt))
+    (λ c. omega (arith, in-slice (start c) 1 tt)) (λ c. simp length-set (in-slice (start c) 1 tt))
+    (λ c. omega (arith, in-slice (start c) 2 tt)) (λ c. omega (arith, in-slice (start c) 2 tt))
+    (λ c. simp length-set (in-slice (start c) 2 tt)) (λ c. omega (arith, in-slice (start c) 3 tt))
+    (λ c. omega (arith, in-slice (start c) 3 tt)) (λ c. simp length-set (in-slice (start c) 3 tt))
+    (λ c. simp length-set) returns)

@@ -1,35 +1,27 @@
 -- `lanes::dct8` meets its contract: each call is one stage more.
-use Prim.Native.Nat.{ℕ}
+use mathlib.Core.Path.{refl}
 use lib.Dec.{lit≤}
-use lib.IntN.{ℤ}
-use mathlib.Core.List.{List}
-use Rattle.av1.specs.Sides.{of8}
+use borrow.Author.Needs.{needs}
+use Rattle.levels.specs.Sides.{of8}
 use Rattle.dct.proofs.Walk.{by-tx64, in-full}
-use Rattle.lanes.specs.Stages.{cut, Left}
-use Rattle.lanes.proofs.Chain.{ask, half-ready, held, chain}
+use Rattle.lanes.proofs.Chain.{Come, Next, begin, onward, ask, half-ready}
 use Rattle.lanes.proofs.dct8.Statement.{statement}
 use Rattle.lanes.proofs.dct8.Tie as tie
 
-abbrev Come : tie.Start → ℕ → List ℤ → ℕ → Type 0
-Come s m u r = Left (cut 0 m) (s .args .min) (s .args .max) (s .args .w) (s .args .t .now) u r
+w0 : (s : tie.Start) → Come (s .args .tx64) 8 (s .args .w) (s .args .t .now) (s .args .min) (s .args .max) 0 (s .args .t .now) (s .args .w)
+w0 s = begin (s .fits .min) (s .fits .max) (s .pre)
 
-abbrev s0 : tie.After-dct4 → tie.Start
-s0 c = c .before .before
+w1 : (c : tie.After-dct4) → Next (w0 (c .before .before)) 4 (c .dct4 .last .0) (c .dct4 .result)
+w1 c = onward (w0 (c .before .before)) 4 refl (c .dct4 .ensures)
 
-w0 : (c : tie.After-dct4) → Come (s0 c) 4 (c .dct4 .last .0) (c .dct4 .result)
-w0 c = held (s0 c .fits .min) (s0 c .fits .max) (c .dct4 .ensures)
-
-abbrev s1 : tie.After-odd8 → tie.Start
-s1 c = s0 (c .before .before)
-
-w1 : (c : tie.After-odd8) → Come (s1 c) 8 (c .odd8 .last .0) (c .odd8 .result)
-w1 c = chain (cut 0 4) (cut 4 8) (s1 c .fits .min) (s1 c .fits .max) (w0 (c .before .before)) (c .odd8 .ensures)
+w2 : (c : tie.After-sweep) → Next (w1 (c .before .before .before .before .before)) 8 (c .sweep .last .0) (c .sweep .result)
+w2 c = onward (w1 (c .before .before .before .before .before)) 8 refl (c .sweep .ensures)
 
 pub dct8-spec : {M : Type 1} → statement M
 dct8-spec =
-    tie.close
-    (tie.spec
-    (λ c κs. let s = c .before in half-ready (lit≤ tt) (s .fits .min) (s .fits .max) (s .pre))
-    (λ c κs. let e = c .before in ask of8 (s0 e .pre) by-tx64 (w0 e) (cut 4 8) (λ rest. tt) (λ rest. tt))
-    (λ c κs. let e = c .before in ask of8 (s1 e .pre) in-full (w1 e) (cut 8 13) (λ rest. tt) (λ rest. tt))
-    (λ c. let e = c .before .before in chain (cut 0 8) (cut 8 13) (s1 e .fits .min) (s1 e .fits .max) (w1 e) (c .last8 .ensures)))
+    tie.close (tie.spec (λ c κs. let s = c .before in half-ready (lit≤ tt) (s .fits .min) (s .fits .max) (s .pre))
+    (λ c. search needs) (λ c. search needs) (λ c. search needs)
+    (λ c κs. ask of8 by-tx64 (w1 (c .before .before .before .before)) refl (λ rest. tt) (λ rest. tt))
+    (λ c. search needs) (λ c. search needs) (λ c. search needs)
+    (λ c κs. ask of8 in-full (w2 (c .before .before .before .before)) refl (λ rest. tt) (λ rest. tt))
+    (λ c. onward (w2 (c .before .before .before .before .before)) 13 refl (c .sweep2 .ensures) .left))

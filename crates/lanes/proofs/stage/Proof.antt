@@ -1,27 +1,20 @@
 -- `lanes::stage` meets its contract.
-use lib.IntN.{ℤ}
-use Rattle.whole.proofs.Held.{from2}
-use Rattle.lanes.specs.Stages.{staged, Mixed}
-use Rattle.lanes.proofs.Sweep.{asks-first, asks-second, asks-third, lane-staged}
+use Rattle.lanes.proofs.Swept.{asks-turns, asks-mixes, lane-staged}
 use Rattle.lanes.proofs.stage.Statement.{statement}
 use Rattle.lanes.proofs.stage.Tie as tie
 
-abbrev start : tie.After-turns-arg → tie.Start
-start c = c .before .before .before .before
-
-returns : tie.Need-returns
-returns c =
-    let f = c .before .before in
-    let e = f .before .before in
-    let s = start (e .before) in
-    from2 (λ lo hi. Mixed (staged (s .args .flipped .now) (s .args .bends .now) (s .args .pairs .now) (s .args .angles .now) (s .args .joined .now)) lo hi (s .args .l) (s .args .t .now) (c .mixes .last .0) (c .mixes .result))
-    (s .fits .min) (s .fits .max) (lane-staged (s .pre) (e .turns .ensures) (f .turns2 .ensures) (c .mixes .ensures))
+abbrev start : tie.After-shared-slice-known2 → tie.Start
+start c = c .before .before
 
 pub stage-spec : {M : Type 1} → statement M
 stage-spec =
-    tie.close
-    (tie.spec
-    (λ c κs. asks-first (start c .pre))
-    (λ c κs. let e = c .before in asks-second (start (e .before) .pre) (e .turns .ensures))
-    (λ c κs. let f = c .before in let e = f .before .before in asks-third (start (e .before) .pre) (e .turns .ensures) (f .turns2 .ensures))
-    returns)
+    tie.close (tie.spec (λ c κs. let i = c .before in asks-turns (start (i .before) .pre) (i .if1 .taken))
+    (λ c κs. let e = c .before in let i = e .before .before in asks-mixes (start (i .before) .pre) (i .if1 .taken) (e .turns .ensures))
+    (λ c.
+    let e = c .before .before in let i = e .before .before in let s = start (i .before) in
+    lane-staged (s .pre) (i .if1 .taken) (e .turns .ensures) (s .fits .min) (s .fits .max) (c .mixes .ensures))
+    (λ c κs. let i = c .before in asks-turns (start (i .before) .pre) (i .if1 .left))
+    (λ c κs. let e = c .before in let i = e .before .before in asks-mixes (start (i .before) .pre) (i .if1 .left) (e .turns2 .ensures))
+    (λ c.
+    let e = c .before .before in let i = e .before .before in let s = start (i .before) in
+    lane-staged (s .pre) (i .if1 .left) (e .turns2 .ensures) (s .fits .min) (s .fits .max) (c .mixes2 .ensures)))

@@ -5,20 +5,13 @@ use borrow.Author.Tests.{le-leb, lt-leb, ne-eqb, eq-eqb}
 use Rattle.levels.proofs.mixed.Statement.{statement}
 use Rattle.levels.proofs.mixed.Tie as tie
 
-mul-if1 : tie.Need-mul-if1
-mul-if1 c = omega (arith, mul-le-mul (c .pre .0) (c .pre .1))
-
-returns : tie.Need-returns
-returns c = let a = c .before .args in simp (le-leb (a .w * a .h) 128 (omega arith))
-
 returns-2 : tie.Need-returns-2
 returns-2 c = simp (lt-leb _ 128 (c .before .before .if1 .left), eq-eqb _ 16 (c .before .match .keys1), eq-eqb _ 16 (c .match2 .keys1))
 
 returns-3 : tie.Need-returns-3
 returns-3 c = simp (lt-leb _ 128 (c .before .before .if1 .left), eq-eqb _ 16 (c .before .match .keys1), ne-eqb _ 16 (c .match2 .rest .1))
 
-returns-4 : tie.Need-returns-4
-returns-4 c = simp (lt-leb _ 128 (c .before .if1 .left), ne-eqb _ 16 (c .match .rest .1))
-
 pub mixed-spec : {M : Type 1} → statement M
-mixed-spec = tie.close (tie.spec mul-if1 returns returns-2 returns-3 returns-4)
+mixed-spec = tie.close (tie.spec (λ c. omega (arith, mul-le-mul (c .pre .0) (c .pre .1)))
+    (λ c. let a = c .before .args in simp (le-leb (a .w * a .h) 128 (omega arith))) returns-2 returns-3
+    (λ c. simp (lt-leb _ 128 (c .before .if1 .left), ne-eqb _ 16 (c .match .rest .1))))

@@ -13,31 +13,32 @@ at-arm s e = ap (kinds-of (s .args .w) (s .args .h)) (sym e)
 -- no number of the table
 no-arm : tie.Need-returns-18
 no-arm c =
-    let n = c .match .rest in
-    let m = n .0 .0 .0 .0 .0 .0 in
-    let l = m .0 .0 .0 .0 .0 .0 in
-    simp (ne-eqb _ 16 (n .1), ne-eqb _ 15 (n .0 .1), ne-eqb _ 14 (n .0 .0 .1), ne-eqb _ 13 (n .0 .0 .0 .1), ne-eqb _ 12 (n .0 .0 .0 .0 .1), ne-eqb _ 11 (n .0 .0 .0 .0 .0 .1), ne-eqb _ 10 (m .1), ne-eqb _ 9 (m .0 .1), ne-eqb _ 8 (m .0 .0 .1), ne-eqb _ 7 (m .0 .0 .0 .1), ne-eqb _ 6 (m .0 .0 .0 .0 .1), ne-eqb _ 5 (m .0 .0 .0 .0 .0 .1), ne-eqb _ 4 (l .1), ne-eqb _ 3 (l .0 .1), ne-eqb _ 2 (l .0 .0 .1), ne-eqb _ 1 (l .0 .0 .0 .1), ne-eqb _ 0 (l .0 .0 .0 .0 .1))
+    let n = c .match .rest in let m = n .0 .0 .0 .0 .0 .0 in let l = m .0 .0 .0 .0 .0 .0 in simp (
+      ne-eqb _ 16 (n .1),
+      ne-eqb _ 15 (n .0 .1),
+      ne-eqb _ 14 (n .0 .0 .1),
+      ne-eqb _ 13 (n .0 .0 .0 .1),
+      ne-eqb _ 12 (n .0 .0 .0 .0 .1),
+      ne-eqb _ 11 (n .0 .0 .0 .0 .0 .1),
+      ne-eqb _ 10 (m .1),
+      ne-eqb _ 9 (m .0 .1),
+      ne-eqb _ 8 (m .0 .0 .1),
+      ne-eqb _ 7 (m .0 .0 .0 .1),
+      ne-eqb _ 6 (m .0 .0 .0 .0 .1),
+      ne-eqb _ 5 (m .0 .0 .0 .0 .0 .1),
+      ne-eqb _ 4 (l .1),
+      ne-eqb _ 3 (l .0 .1),
+      ne-eqb _ 2 (l .0 .0 .1),
+      ne-eqb _ 1 (l .0 .0 .0 .1),
+      ne-eqb _ 0 (l .0 .0 .0 .0 .1),
+    )
 
 pub type-kinds-spec : {M : Type 1} → statement M
 type-kinds-spec =
-    tie.close
-    (tie.spec
-    (λ c κs. search needs)
-    (λ c κs. search needs)
-    (λ c κs. search needs)
-    (λ c κs. search needs)
-    (λ c κs. search needs)
-    (λ c κs. search needs)
-    (λ c κs. search needs)
-    (λ c κs. search needs)
-    (λ c κs. search needs)
-    (λ c κs. search needs)
-    (λ c κs. search needs)
-    (λ c κs. search needs)
-    (λ c κs. search needs)
-    (λ c κs. search needs)
-    (λ c κs. search needs)
-    (λ c. at-arm (c .before) (c .match .keys1))
+    tie.close (tie.spec (λ c κs. search needs) (λ c κs. search needs) (λ c κs. search needs) (λ c κs. search needs)
+    (λ c κs. search needs) (λ c κs. search needs) (λ c κs. search needs) (λ c κs. search needs) (λ c κs. search needs)
+    (λ c κs. search needs) (λ c κs. search needs) (λ c κs. search needs) (λ c κs. search needs) (λ c κs. search needs)
+    (λ c κs. search needs) (λ c. at-arm (c .before) (c .match .keys1))
     (λ c. c .at-4x4 .ensures ∙ at-arm (c .before .before) (c .before .match .keys2))
     (λ c. c .at-4x42 .ensures ∙ at-arm (c .before .before) (c .before .match .keys3))
     (λ c. c .at-4x43 .ensures ∙ at-arm (c .before .before) (c .before .match .keys4))

@@ -22,10 +22,15 @@ use Rattle.lossless.proofs.encode.Tie as tie
 
 resolve-wht-requires : tie.Need-resolve-wht-requires
 resolve-wht-requires c κs =
-    let a = c .before .before .before in
-    let s = a .before .before in
+    let a = c .before .before .before in let s = a .before .before in
     let x = subst⁻¹ (Sixteen 524288) (a .cross .ensures) (crossed-sixteen (s .args .residual .now) (lit≤ tt) (s .pre .0)) in
-    record { sized = sized 4 4 16 (wht-plan 0) refl; coefs = record { count = x .enough; small = x .small }; some-rows = lit≤ tt; empty = zeros-at 16; long = refl }
+    record {
+      sized = sized 4 4 16 (wht-plan 0) refl;
+      coefs = record { count = x .enough; small = x .small };
+      some-rows = lit≤ tt;
+      empty = zeros-at 16;
+      long = refl;
+    }
 
 -- after the inverse
 module _ (c : tie.After-resolve-wht) where
@@ -33,7 +38,8 @@ module _ (c : tie.After-resolve-wht) where
   s = c .before .before .before .before .before .before
 
   resolved : ResolvedIn 16 First (wht-plan 0) Eight (crossed (s .args .residual .now)) 4 (c .resolve-wht .last .0) false
-  resolved = subst (λ (x : List ℤ). ResolvedIn 16 First (wht-plan 0) Eight x 4 (c .resolve-wht .last .0) false) (c .before .before .before .before .cross .ensures) (c .resolve-wht .ensures 0 Eight)
+  resolved = subst (λ (x : List ℤ). ResolvedIn 16 First (wht-plan 0) Eight x 4 (c .resolve-wht .last .0) false)
+      (c .before .before .before .before .cross .ensures) (c .resolve-wht .ensures 0 Eight)
 
   small : Sixteen 16777216 (c .resolve-wht .last .0)
   small = record {
@@ -45,20 +51,13 @@ module _ (c : tie.After-resolve-wht) where
 
 returns : tie.Need-returns
 returns c =
-    let e = c .before in
-    let a = e .before .before .before .before in
-    e .cross2 .ensures ∙ ap (λ (v : List ℤ). v ++ drop 16 (s a .args .coeff .now)) (crossed-back Eight (s a .args .residual .now) (a .resolve-wht .last .0) (resolved a))
+    let e = c .before in let a = e .before .before .before .before in
+    e .cross2 .ensures ∙ ap (λ (v : List ℤ). v ++ drop 16 (s a .args .coeff .now))
+    (crossed-back Eight (s a .args .residual .now) (a .resolve-wht .last .0) (resolved a))
 
 pub encode-spec : {M : Type 1} → statement M
 encode-spec =
-    tie.close
-    (tie.spec
-    (λ c. search needs)
+    tie.close (tie.spec (λ c. search needs)
     (λ c κs. (record { enough = c .before .pre .0 .enough; small = λ i l. le-trans (c .before .pre .0 .small i l) (lit≤ tt) }, lit≤ tt))
-    (λ c. search needs)
-    (λ c. search needs)
-    resolve-wht-requires
-    (λ c. search needs)
-    (λ c κs. let a = c .before .before .before in (small a, s a .pre .1))
-    (λ c. search needs)
-    returns)
+    (λ c. search needs) (λ c. search needs) resolve-wht-requires (λ c. search needs)
+    (λ c κs. let a = c .before .before .before in (small a, s a .pre .1)) (λ c. search needs) returns)

@@ -19,9 +19,10 @@ use Rattle.whole.proofs.Counts.{first-none}
 use Rattle.whole.proofs.Sizes.{abs-fits}
 use Rattle.bitdepth.specs.declared.Depth.{Depth}
 use Rattle.bitdepth.specs.declared.Depth.the-variants.{Eight, Ten, Twelve}
-use Rattle.bitdepth.specs.Depths.{depth, check-of, maximum}
-use Rattle.coefs.specs.declared.Found.{Found}
-use Rattle.coefs.specs.Coefs.{found}
+use Rattle.bitdepth.specs.Depths.{depth, maximum}
+use Rattle.bitdepth.specs.Depths.{check-of}
+use Rattle.intops.specs.declared.Found.{Found}
+use Rattle.intops.specs.Searches.{found}
 use Rattle.lossless.specs.declared.Written.{Written}
 use Rattle.lossless.specs.Writes.{out-of-bounds, checks, left, written, answer-of, Meets}
 use Rattle.lossless.specs.Inner.{Sixteen}
@@ -40,9 +41,13 @@ module _ (s : tie.Start) where
   abbrev short : Bool
   short = ltb (length r) 16 || ltb (length c) 16
 
-  meets : (w : Written) (c′ : List ℤ) (v : Check (Unit {0})) → checks r c (s .args .depth) ≡ v → answer-of w ≡ left r c v .answer → c′ ≡ left r c v .elements → Meets (written r c (s .args .depth)) w c′
+  meets : (w : Written) (c′ : List ℤ) (v : Check (Unit {0})) → checks r c (s .args .depth) ≡ v
+      → answer-of w ≡ left r c v .answer → c′ ≡ left r c v .elements → Meets (written r c (s .args .depth)) w c′
   unfolding written
-  meets w c′ v e a b = record { answer = a ∙ ap (λ (v : Check (Unit {0})). left r c v .answer) (sym e); elements = b ∙ ap (λ (v : Check (Unit {0})). left r c v .elements) (sym e) }
+  meets w c′ v e a b = record {
+    answer = a ∙ ap (λ (v : Check (Unit {0})). left r c v .answer) (sym e);
+    elements = b ∙ ap (λ (v : Check (Unit {0})). left r c v .elements) (sym e);
+  }
 
   abbrev later : Depth → Check (Unit {0})
   later d = unless short 6 (unless-at (first 16 (λ i. out-of-bounds d (at r i))) 23 (accept tt))
@@ -102,24 +107,26 @@ module _ (o : tie.After-first-outside) where
   begin = start asked
 
   searched : {k : Found} → o .first-outside .result ≡ k → first 16 (λ i. out-of-bounds (deep asked) (at (r begin) i)) ≡ found k
-  searched e = (λ i. first 16 (λ j. outside (at (r begin) j) (sym (low-is asked) i) (sym (high-is asked) i))) ∙ sym (o .first-outside .ensures) ∙ ap found e
+  searched e = (λ i. first 16 (λ j. outside (at (r begin) j) (sym (low-is asked) i) (sym (high-is asked) i)))
+      ∙ sym (o .first-outside .ensures) ∙ ap found e
 
   judged : {k : Found} → o .first-outside .result ≡ k → checks (r begin) (c begin) (begin .args .depth) ≡ unless-at (found k) 23 (accept tt)
   judged e = by-tests begin (deep asked) false _ (accepted asked) (enough asked) (searched e)
 
   inside : {k : Found} → o .first-outside .result ≡ k → found k ≡ none → Sixteen 4095 (r begin) × (16 ≤ length (c begin))
   inside e f =
-      let b = or-false (ltb (length (r begin)) 16) (ltb (length (c begin)) 16) (enough asked) in
-      let d = ends (deep asked) in (
+      let b = or-false (ltb (length (r begin)) 16) (ltb (length (c begin)) 16) (enough asked) in let d = ends (deep asked) in (
         record {
           enough = ltb-false (length (r begin)) 16 (b .0);
-          small = λ i l. inside-abs (at (r begin) i) _ _ (first-none 16 (λ i. out-of-bounds (deep asked) (at (r begin) i)) (searched e ∙ f) i l) (d .low-small) (d .high-small);
+          small = λ i l. inside-abs (at (r begin) i) _ _
+              (first-none 16 (λ i. out-of-bounds (deep asked) (at (r begin) i)) (searched e ∙ f) i l) (d .low-small) (d .high-small);
         },
         ltb-false (length (c begin)) 16 (b .1),
       )
 
 returns : tie.Need-returns
-returns k = let s = k .before .before .before in meets s _ _ (refuse 3 0) (known s (sym (k .before .before .of .ensures) ∙ ap check-of (k .enum-told .given .1))) refl refl
+returns k = let s = k .before .before .before in
+    meets s _ _ (refuse 3 0) (known s (sym (k .before .before .of .ensures) ∙ ap check-of (k .enum-told .given .1))) refl refl
 
 returns-2 : tie.Need-returns-2
 returns-2 k =
@@ -128,32 +135,18 @@ returns-2 k =
     meets s _ _ (refuse 6 0) (by-tests s _ true _ e (k .if1 .taken) refl) refl refl
 
 returns-3 : tie.Need-returns-3
-returns-3 k =
-    let o = k .before .before .before in
-    meets (begin o) _ _ _ (judged o (k .before .found .given .1)) refl refl
+returns-3 k = let o = k .before .before .before in meets (begin o) _ _ _ (judged o (k .before .found .given .1)) refl refl
 
 returns-4 : tie.Need-returns-4
 returns-4 k =
-    let g = k .before .before .before in
-    let o = g .before .before in
+    let g = k .before .before .before in let o = g .before .before in
     meets (begin o) _ _ _ (judged o (g .enum-told2 .given .1)) refl (k .before .encode .ensures)
 
 pub fwd-wht4x4-spec : {M : Type 1} → statement M
 fwd-wht4x4-spec =
-    tie.close
-    (tie.spec
-    (λ k κs. search needs)
-    (λ k. search needs)
-    (λ k. search needs)
-    returns
-    returns-2
-    (λ k κs. search needs)
-    (λ k. search needs)
+    tie.close (tie.spec (λ k κs. search needs) (λ k. search needs) (λ k. search needs) returns returns-2
+    (λ k κs. search needs) (λ k. search needs)
     (λ k. subst⁻¹ (λ (n : ℕ). SFits w32 (pos 0 -ℤ toZ w32 n)) (k .maximum .ensures) (ends (deep k) .fits))
-    (λ k κs. ltb-false (length (r (start k))) 16 (or-false _ _ (enough k) .0))
-    (λ k. search needs)
-    (λ k. search needs)
+    (λ k κs. ltb-false (length (r (start k))) 16 (or-false _ _ (enough k) .0)) (λ k. search needs) (λ k. search needs)
     (λ k κs. inside (k .before .before .before) (k .before .enum-told2 .given .1) refl)
-    returns-3
-    (λ k. search needs)
-    returns-4)
+    returns-3 (λ k. search needs) returns-4)

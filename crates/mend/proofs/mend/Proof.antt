@@ -17,7 +17,7 @@ use Rattle.bitdepth.specs.declared.Range.{Range}
 use Rattle.residual.proofs.Ends.{Reach, row-reach}
 use Rattle.residual.proofs.Ends as Ends
 use Rattle.blockfile.proofs.Writing.{put-length}
-use Rattle.mend.specs.Mend.{moved, changeLine}
+use Rattle.mend.specs.Mend.{moved, change-line}
 use Rattle.mend.proofs.Mending.{Mending, begin, as-long, finish, here, stays, moves, change-short}
 use Rattle.mend.proofs.mend.Statement.{statement}
 use Rattle.mend.proofs.mend.Tie as tie
@@ -99,15 +99,14 @@ module _ (c : tie.After-iclip Inv-loop μ-loop) where
       ∙ (λ j. clip (old-is turn j) (low-is (head turn) j) (high-is (head turn) j))
 
   abbrev line : ℤ → ℤ → List ℕ
-  line = changeLine (start (head turn) .args .«record») (place turn)
+  line = change-line (start (head turn) .args .«record») (place turn)
 
   line-is : line (held (read turn)) (held (c .iclip .result)) ≡ line (v turn) new
   line-is j = line (old-is turn j) (new-is j)
 
   short : length (line (v turn) new) ≤ 46
   short =
-      let l = head turn in
-      let s = start l in
+      let l = head turn in let s = start l in
       change-short (m l) (s .args .«record») (place turn) (v turn) (omega (arith, m-is l, reach l .small)) (s .fits .«record» .fits)
       (omega (arith, more turn, s .pre .0)) (rw (unchanged turn) at (fits turn))
 
@@ -118,10 +117,7 @@ put-change-requires c κs =
 
 loop-again : tie.Need-loop-again Inv-loop μ-loop
 loop-again c =
-    let t = c .before .before in
-    let inv = head t .loop .inv in
-    ⊎-elim
-    (λ a.
+    let t = c .before .before in let inv = head t .loop .inv in ⊎-elim (λ a.
     let clipped : tie.After-iclip Inv-loop μ-loop = record { before = record { before = c .before; if1 = a .0 }; iclip = a .1 } in
     rw (a .6, a .7, a .8, new-is clipped)
     (moves inv (more t) (test-is (c .before) ∙ a .0 .taken) (rw (line-is clipped) at (a .3 .ensures)) (short clipped)))
@@ -129,25 +125,12 @@ loop-again c =
 
 returns : tie.Need-returns Inv-loop μ-loop
 returns c =
-    let inv = c .before .loop .inv in
-    rw (← m-is (c .before)) (finish inv (omega (arith, c .loop-test .left, as-long inv)))
+    let inv = c .before .loop .inv in rw (← m-is (c .before)) (finish inv (omega (arith, c .loop-test .left, as-long inv)))
 
 pub mend-spec : {M : Type 1} → statement M
 mend-spec =
-    tie.close
-    (tie.spec Inv-loop μ-loop
-    (λ c κs. search needs)
-    (λ c. begin (c .before .before .before .before .pre .1))
-    (λ c. search needs)
-    (λ c. search needs)
-    (λ c κs. search needs)
-    (λ c κs. search needs)
-    put-change-requires
-    (λ c. search needs)
-    (λ c. search needs)
-    (λ c. search needs)
-    (λ c. omega (arith, more (c .before .before)))
-    loop-again
-    (λ c. as-long (c .before .loop .inv))
-    (λ c. put-length (c .before .loop .inv .told))
-    returns)
+    tie.close (tie.spec Inv-loop μ-loop (λ c κs. search needs)
+    (λ c. begin (c .before .before .before .before .pre .1)) (λ c. search needs) (λ c. search needs)
+    (λ c κs. search needs) (λ c κs. search needs) put-change-requires (λ c. search needs) (λ c. search needs)
+    (λ c. search needs) (λ c. omega (arith, more (c .before .before))) loop-again
+    (λ c. as-long (c .before .loop .inv)) (λ c. put-length (c .before .loop .inv .told)) returns)

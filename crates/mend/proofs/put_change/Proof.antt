@@ -38,8 +38,7 @@ Left s = Spelling (from-number s (λ z. z)) (s .args .out .now) (s .args .at)
 -- what is left of the line at the beginning, and after each of the three blanks
 whole : (s : tie.Start) → Left s (from-number s held) (s .args .out .now) (s .args .at)
 whole s =
-    let old = toZ-ofZ w32 (s .args .old) (s .fits .old) in
-    let new = toZ-ofZ w32 (s .args .new) (s .fits .new) in
+    let old = toZ-ofZ w32 (s .args .old) (s .fits .old) in let new = toZ-ofZ w32 (s .args .new) (s .fits .new) in
     spell (λ i. decimal (s .args .«record») ∷ decimal (s .args .place) ∷ signed (old i) ∷ signed (new i) ∷ []) (s .pre)
 
 module _ (c : tie.After-put-decimal) where
@@ -75,11 +74,8 @@ same-length c =
 
 pub put-change-spec : {M : Type 1} → statement M
 put-change-spec =
-    tie.close
-    (tie.spec
-    (λ c κs. omega (arith, word-room (whole (c .before .before))))
-    (λ c. let n = c .before .before in word-put (whole (start n)) (n .put-decimal .ensures) .0)
-    (λ c. search needs)
+    tie.close (tie.spec (λ c κs. omega (arith, word-room (whole (c .before .before))))
+    (λ c. let n = c .before .before in word-put (whole (start n)) (n .put-decimal .ensures) .0) (λ c. search needs)
     (λ c κs. omega (arith, word-room (after-number (c .before .before .before))))
     (λ c. let p = c .before .before in word-put (after-number (number p)) (p .put-decimal2 .ensures) .0)
     (λ c. let p = c .before .before .before in omega (arith, after-place p .room, start (number p) .good .0))
@@ -87,9 +83,7 @@ put-change-spec =
     (λ c. let o = c .before .before in word-put (after-place (place o)) (o .put-signed .ensures) .0)
     (λ c. let o = c .before .before .before in omega (arith, after-old o .room, start (number (place o)) .good .0))
     (λ c κs. omega (arith, word-room (after-old (c .before .before .before))))
-    (λ c. let e = c .before .before in word-put (after-old (old e)) (e .put-signed2 .ensures) .0)
-    (λ c.
+    (λ c. let e = c .before .before in word-put (after-old (old e)) (e .put-signed2 .ensures) .0) (λ c.
     let e = c .before .before in
     omega (arith, word-put (after-old (old e)) (e .put-signed2 .ensures), start (number (place (old e))) .good .0))
-    same-length
-    (λ c. let e = c .before .before in put-end (after-old (old e)) (e .put-signed2 .ensures)))
+    same-length (λ c. let e = c .before .before in put-end (after-old (old e)) (e .put-signed2 .ensures)))

@@ -7,10 +7,12 @@ use denote.Enum.Declared.{tagOf}
 use types.Run.{OneOf, miss}
 use borrow.Author.Needs.{needs}
 use Rattle.whole.specs.Checks.{Check, accept, refuse, then}
-use Rattle.bitdepth.specs.Depths.{check-of, depth, row-range}
+use Rattle.bitdepth.specs.Depths.{depth, row-range}
+use Rattle.bitdepth.specs.Depths.{check-of}
 use Rattle.bitdepth.specs.declared.Depth.{Depth}
 use Rattle.bitdepth.specs.declared.DepthCheck.{DepthCheck}
-use Rattle.levels.specs.Plans.{plan, decision-of}
+use Rattle.levels.specs.Plans.{plan}
+use Rattle.levels.specs.Plans.{decision-of}
 use Rattle.levels.specs.declared.Plan.{Plan}
 use Rattle.levels.specs.declared.Decision.{Decision}
 use Rattle.levels.specs.declared.Decision.the-variants.{Planned, NoSize, NoType}
@@ -35,7 +37,8 @@ ranged : (h : Head) → then (plan (h .w) (h .h) (h .txtp)) (by-depth h) ≡ ran
 ranged h = go (plan (h .w) (h .h) (h .txtp)) (depth (h .depth))
   where
     go : (c : Check Plan) (k : Check Depth)
-        → then c (λ p. then k (λ d. accept (row-range d))) ≡ then {A = Plan × Depth} (then c (λ p. then k (λ d. accept (p, d)))) (λ a. accept (row-range (a .1)))
+        → then c (λ p. then k (λ d. accept (row-range d))) ≡ then {A = Plan × Depth} (then c (λ p. then k (λ d. accept (p, d))))
+        (λ a. accept (row-range (a .1)))
     go (accept p) (accept d) = refl
     go (accept p) (refuse n i) = refl
     go (refuse n i) k = refl
@@ -44,31 +47,19 @@ ranged h = go (plan (h .w) (h .h) (h .txtp)) (depth (h .depth))
 told : (c : tie.After-of2) (k : DepthCheck) → c .of2 .result ≡ k → let t = c .before .before in
     reach (then (check-of k) (λ d. accept (row-range d))) ≡ reach (range (t .before .before .before .before .before .before .args .head))
 told c k e =
-    let t = c .before .before in
-    let o = t .before .before in
-    let h = o .before .before .before .before .args .head in
+    let t = c .before .before in let o = t .before .before in let h = o .before .before .before .before .args .head in
     ap (λ (d : Check Depth). reach (then d (λ d. accept (row-range d)))) (ap check-of (sym e) ∙ c .of2 .ensures)
     ∙ ap (λ (p : Check Plan). reach (then p (by-depth h))) (ap decision-of (sym (t .enum-told .given .1)) ∙ o .of .ensures) ∙ ap reach (ranged h)
 
 returns : tie.Need-returns
 returns c =
-    let o = c .before in
-    let h = o .before .before .before .before .args .head in
-    no-plan (o .of .result) (c .match .keys2) (by-depth h) ∙ ap (λ (p : Check Plan). reach (then p (by-depth h))) (o .of .ensures) ∙ ap reach (ranged h)
+    let o = c .before in let h = o .before .before .before .before .args .head in
+    no-plan (o .of .result) (c .match .keys2) (by-depth h)
+    ∙ ap (λ (p : Check Plan). reach (then p (by-depth h))) (o .of .ensures) ∙ ap reach (ranged h)
 
 pub row-range-spec : {M : Type 1} → statement M
 row-range-spec =
-    tie.close
-    (tie.spec
-    (λ c. search needs)
-    (λ c. search needs)
-    (λ c. search needs)
-    (λ c κs. search needs)
-    (λ c. search needs)
-    returns
-    (λ c. search needs)
-    (λ c κs. search needs)
-    (λ c. search needs)
-    (λ c. search needs)
+    tie.close (tie.spec (λ c. search needs) (λ c. search needs) (λ c. search needs) (λ c κs. search needs)
+    (λ c. search needs) returns (λ c. search needs) (λ c κs. search needs) (λ c. search needs) (λ c. search needs)
     (λ c. told (c .before .before) _ (c .enum-told2 .given .1))
     (λ c. told (c .before .before .before) _ (c .before .checked .given .1)))

@@ -24,9 +24,7 @@ module _ (s : tie.Start) where
 
 pub add-pixel-spec : {M : Type 1} → statement M
 add-pixel-spec =
-    tie.close
-    (tie.spec
-    (λ c. search needs)
-    (λ c. need (numbers c) bounds (bounded c) (var 0 ⊕ var 1) w32 tt)
-    (λ c κs. search needs)
-    (λ c. let s = c .before in c .pixel .ensures ∙ ap (λ (z : ℤ). natAbs (clip z (pos 0) (pos (s .args .top)))) (reads (numbers s) bounds (bounded s) (var 0 ⊕ var 1) w32 tt)))
+    tie.close (tie.spec
+    (λ c. search needs) (λ c. need (numbers c) bounds (bounded c) (var 0 ⊕ var 1) w32 tt) (λ c κs. search needs) (λ c.
+    let s = c .before in
+    c .pixel .ensures ∙ ap (λ (z : ℤ). natAbs (clip z (pos 0) (pos (s .args .top)))) (reads (numbers s) bounds (bounded s) (var 0 ⊕ var 1) w32 tt)))

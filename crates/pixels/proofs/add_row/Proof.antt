@@ -1,15 +1,14 @@
 -- `pixels::add_row` meets its contract.
-use mathlib.Core.Path.{_≡_, ap, _∙_, subst⁻¹}
-use Prim.Native.Nat.{ℕ, _+_, _-_, _≤_, _<_}
+use mathlib.Core.Path.{_≡_}
+use Prim.Native.Nat.{_+_, _-_}
 use native.Mathlib.Omega.{arith}
-use lib.IntN.{ℤ, natAbs}
-use lib.ListN.{length}
+use lib.IntN.{ℤ}
 use mir.Syntax.{w32}
-use mir.Val.{toZ, ofZ}
-use mir.ValLaws.{toZ-ofZ}
 use Rattle.whole.specs.Lists.{at}
+use Rattle.strided.proofs.Casts.{read}
 use Rattle.pixels.specs.Inner.{left}
-use Rattle.pixels.proofs.Pixels.{left-small, RowTo, row-begun, row-long, row-next, row-done}
+use Rattle.pixels.proofs.Pixels.{RowTo, row-begun, row-long, row-done}
+use Rattle.pixels.proofs.Walks.{Here, here, onward, held-small, held-left, added-small}
 use Rattle.pixels.proofs.add_row.Statement.{statement}
 use Rattle.pixels.proofs.add_row.Tie as tie
 
@@ -19,67 +18,38 @@ Inv-loop ps₀ from t start columns w top x₀ ps x = RowTo top ps₀ from (λ i
 abbrev μ-loop : tie.MeasureT-loop
 μ-loop ps₀ from t start columns w top x₀ ps x = w - x
 
--- what is added in column x
-abbrev added : tie.Start Inv-loop μ-loop → ℕ → ℤ
-added s x = left (s .args .columns) (at (s .args .t .now) (s .args .start + x))
+abbrev s : tie.In-loop Inv-loop μ-loop → tie.Start Inv-loop μ-loop
+s c = c .before .before .before
 
-module _ (c : tie.In-loop Inv-loop μ-loop) where
-  abbrev s : tie.Start Inv-loop μ-loop
-  s = c .before .before .before
+-- the number, and what is added, as it is held
+abbrev number : tie.In-loop Inv-loop μ-loop → ℤ
+number c = at (s c .args .t .now) (s c .args .start + c .before .loop .x)
 
-  abbrev column : ℕ
-  column = c .before .loop .x
+value : (c : tie.After-leave Inv-loop μ-loop) → let i = c .before .before in read w32 (c .leave .result) ≡ left (s i .args .columns) (number i)
+value c =
+    held-left (s (c .before .before) .args .columns) (record { sfits = c .before .leave-arg .given }) (record { sfits = c .leave .ok })
+    (c .leave .ensures)
 
-  there : s .args .start + column < length (s .args .t .now)
-  there = s .pre .numbers .there column (c .loop-test .taken)
-
-  small : natAbs (at (s .args .t .now) (s .args .start + column)) ≤ 16777216
-  small = s .pre .numbers .small column (c .loop-test .taken)
-
-  -- the pixel's place is in the slice, as it was and as it is
-  here : s .args .from + column < length (s .args .ps .now)
-  here = omega (arith, c .loop-test .taken, s .pre .pixels)
-
-  here-still : s .args .from + column < length (c .before .loop .ps)
-  here-still = omega (arith, here, row-long (c .before .loop .inv))
-
--- the number, and what is added, as they are held
-number : (c : tie.After-leave-arg Inv-loop μ-loop) → let i = c .before in let v = at (s i .args .t .now) (s i .args .start + column i) in toZ w32 (ofZ w32 v) ≡ v
-number c = toZ-ofZ w32 _ (record { sfits = c .leave-arg .given })
-
-value : (c : tie.After-leave Inv-loop μ-loop) → let i = c .before .before in toZ w32 (ofZ w32 (c .leave .result)) ≡ added (s i) (column i)
-value c = toZ-ofZ w32 (c .leave .result) (record { sfits = c .leave .ok }) ∙ c .leave .ensures ∙ ap (left (s (c .before .before) .args .columns)) (number (c .before))
-
-add-pixel-requires : tie.Need-add-pixel-requires Inv-loop μ-loop
-add-pixel-requires c κs =
-    let i = c .before .before .before in
-    subst⁻¹ (λ (z : ℤ). natAbs z ≤ 16777216) (value (c .before)) (left-small (s i .args .columns) (at (s i .args .t .now) (s i .args .start + column i)) (small i))
-
-loop-again : tie.Need-loop-again Inv-loop μ-loop
-loop-again c =
-    let i = c .before .before .before .before in
-    row-next (i .before .loop .inv) (i .loop-test .taken) (value (c .before .before)) (c .add-pixel .ensures)
+pixel : (c : tie.In-loop Inv-loop μ-loop) → let a = s c .args in let l = c .before .loop in
+    Here (a .top) (a .ps .now) (a .from) (λ x. left (a .columns) (at (a .t .now) (a .start + x))) (a .w) (l .x) (l .ps)
+pixel c = here (c .before .loop .inv) (c .loop-test .taken) (s c .pre .pixels)
 
 pub add-row-spec : {M : Type 1} → statement M
 add-row-spec =
-    tie.close
-    (tie.spec
-    Inv-loop
-    μ-loop
-    (λ c. row-begun _ _ _ _ _)
-    (λ c. omega (arith, there c, s c .good .1 .1 .0 .0))
-    (λ c. omega (arith, there c, s c .good .1 .1 .0 .1))
-    (λ c. there c)
-    (λ c κs. subst⁻¹ (λ (z : ℤ). natAbs z ≤ 16777216) (number c) (small (c .before)))
-    (λ c. let i = c .before .before in omega (arith, here i, s i .good .0 .0))
-    (λ c. let i = c .before .before in omega (arith, here i, s i .good .0 .1))
-    (λ c. here-still (c .before .before .before))
-    add-pixel-requires
-    (λ c. let i = c .before .before .before .before in omega (arith, here i, s i .good .0 .0))
-    (λ c. let i = c .before .before .before .before in omega (arith, here i, s i .good .0 .1))
-    (λ c. here-still (c .before .before .before .before))
-    (λ c. let i = c .before .before .before .before in omega (arith, i .loop-test .taken, s i .fits .w))
-    (λ c. omega arith)
-    loop-again
-    (λ c. row-long (c .before .loop .inv))
-    (λ c. row-done (c .before .loop .inv) (c .loop-test .left)))
+    tie.close (tie.spec
+    Inv-loop μ-loop (λ c. row-begun _ _ _ _ _)
+    (λ c. omega (arith, s c .pre .numbers .there _ (c .loop-test .taken), s c .good .1 .1 .0 .0))
+    (λ c. omega (arith, s c .pre .numbers .there _ (c .loop-test .taken), s c .good .1 .1 .0 .1))
+    (λ c. s c .pre .numbers .there _ (c .loop-test .taken)) (λ c κs.
+    held-small (number (c .before)) (record { sfits = c .leave-arg .given }) (s (c .before) .pre .numbers .small _ (c .before .loop-test .taken)))
+    (λ c. let i = c .before .before in omega (arith, pixel i .first, s i .good .0 .0))
+    (λ c. let i = c .before .before in omega (arith, pixel i .first, s i .good .0 .1))
+    (λ c. pixel (c .before .before .before) .still) (λ c κs.
+    let i = c .before .before .before in
+    added-small (s i .args .columns) (number i) (value (c .before)) (s i .pre .numbers .small _ (i .loop-test .taken)))
+    (λ c. let i = c .before .before .before .before in omega (arith, pixel i .first, s i .good .0 .0))
+    (λ c. let i = c .before .before .before .before in omega (arith, pixel i .first, s i .good .0 .1))
+    (λ c. pixel (c .before .before .before .before) .still)
+    (λ c. let i = c .before .before .before .before in omega (arith, i .loop-test .taken, s i .fits .w)) (λ c. omega arith)
+    (λ c. onward (pixel (c .before .before .before .before)) (value (c .before .before)) (c .add-pixel .ensures))
+    (λ c. row-long (c .before .loop .inv)) (λ c. row-done (c .before .loop .inv) (c .loop-test .left)))

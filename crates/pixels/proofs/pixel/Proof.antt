@@ -26,12 +26,13 @@ module _ (s : tie.Start) where
   clipped = clip (s .args .v) (pos 0) (pos (s .args .top))
 
   in-range : T (nonNeg clipped) × (natAbs clipped ≤ s .args .top)
-  in-range = from-0 clipped (s .args .top) (clip-kept (s .args .v) (pos 0) (pos (s .args .top)) (pos 0) (not-outside (pos 0) (pos (s .args .top)) (pos 0) (record { above = omega arith; below = omega arith })))
+  in-range =
+      let zero = not-outside (pos 0) (pos (s .args .top)) (pos 0) (record { above = omega arith; below = omega arith }) in
+      from-0 clipped (s .args .top) (clip-kept (s .args .v) (pos 0) (pos (s .args .top)) (pos 0) zero)
 
 held : (c : tie.After-iclip) → toZ w32 (ofZ w32 (c .iclip .result)) ≡ clipped (c .before)
 held c =
-    let s = c .before in
-    let v = toZ-ofZ w32 (s .args .v) (s .fits .v) in
+    let s = c .before in let v = toZ-ofZ w32 (s .args .v) (s .fits .v) in
     let top = toZ-pos w32 (s .args .top) (omega (arith, s .fits .top .fits)) in
     toZ-ofZ w32 (c .iclip .result) (record { sfits = c .iclip .ok }) ∙ c .iclip .ensures ∙ (λ i. clip (v i) (pos 0) (top i))
 

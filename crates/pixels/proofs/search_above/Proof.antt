@@ -11,19 +11,16 @@ use lib.Dec.{ltb}
 use lib.IntN.{natAbs}
 use lib.ListN.{getD, length}
 use mir.Syntax.{w64}
-use mir.ValLaws.{toZ-ofZ}
 use Rattle.whole.proofs.Counts.{none-first, first-found}
-use Rattle.whole.proofs.Parts.{nn}
 use Rattle.strided.specs.declared.Spot.{Spot}
 use Rattle.strided.specs.declared.PixelStride.{PixelStride}
-use Rattle.strided.specs.Planes.{starts}
-use Rattle.strided.proofs.Casts.{read, to-usize}
-use Rattle.strided.proofs.Rows.{row-within}
-use Rattle.coefs.specs.declared.Found.the-variants.{Nothing}
-use Rattle.coefs.specs.Coefs.{found}
+use Rattle.strided.proofs.Casts.{read}
+use Rattle.intops.specs.declared.Found.the-variants.{Nothing}
+use Rattle.intops.specs.Searches.{found}
 use Rattle.coefs.proofs.Clean.{Clean, clean-more, in-buffer}
 use Rattle.pixels.specs.Above.{above}
 use Rattle.pixels.proofs.Above.{at-visible, clean-past}
+use Rattle.pixels.proofs.Walks.{Row, found-row, place, counted, in-slice}
 use Rattle.pixels.proofs.search_above.Statement.{statement}
 use Rattle.pixels.proofs.search_above.Tie as tie
 
@@ -31,7 +28,8 @@ abbrev sought : ℕ → List ℕ → ℕ → PixelStride → ℕ → ℕ → ℕ
 sought top ps offset stride n rows w = above top ps (record { offset = offset; stride = stride; columns = n; rows = rows }) w
 
 abbrev Inv-loop : tie.InvT-loop
-Inv-loop ps w top offset stride n rows place₀ y from x₀ place x = (x ≤ n) × (place ≡ Nothing) × Clean (sought top ps offset stride n rows w) (y * w + x)
+Inv-loop ps w top offset stride n rows place₀ y from x₀ place x =
+    (x ≤ n) × (place ≡ Nothing) × Clean (sought top ps offset stride n rows w) (y * w + x)
 
 abbrev μ-loop : tie.MeasureT-loop
 μ-loop ps w top offset stride n rows place₀ y from x₀ place x = n - x
@@ -53,14 +51,10 @@ module _ (c : tie.In-rows Inv-loop μ-loop Inv-rows μ-rows) where
   abbrev y : ℕ
   y = c .before .rows .y
 
-  y-small : y ≤ 32
-  y-small = omega (arith, c .rows-test .taken, s .pre .height)
-
-  row-here : let z = starts (here .offset) (here .stride .0) y in (nn z ≡ 0) × (natAbs z + here .columns ≤ length (s .args .ps .now))
-  row-here = row-within (length (s .args .ps .now)) (here .offset) (here .stride .0) (here .columns) (here .rows) (s .pre .inside) y (c .rows-test .taken)
-
-from-is : (c : tie.After-start Inv-loop μ-loop Inv-rows μ-rows) → let i = c .before in read w64 (c .start .result) ≡ starts (here i .offset) (here i .stride .0) (y i)
-from-is c = toZ-ofZ w64 (c .start .result) (record { sfits = c .start .ok }) ∙ c .start .ensures
+row : (c : tie.After-start Inv-loop μ-loop Inv-rows μ-rows) → let i = c .before in Row (here i) (length (s i .args .ps .now)) (y i) (c .start .result)
+row c =
+    let i = c .before in
+    found-row _ _ _ (s i .pre .height) (s i .pre .inside) (i .rows-test .taken) (record { sfits = c .start .ok }) (c .start .ensures)
 
 -- at a pixel
 module _ (c : tie.In-loop Inv-loop μ-loop Inv-rows μ-rows) where
@@ -77,66 +71,57 @@ module _ (c : tie.In-loop Inv-loop μ-loop Inv-rows μ-rows) where
   from = natAbs (read w64 (f .start .result))
 
   there : from + x < length (s i .args .ps .now)
-  there = omega (arith, ap natAbs (from-is f), row-here i .1, c .loop-test .taken)
+  there = omega (arith, in-slice (row f) refl, c .loop-test .taken)
 
   in-all : y i * s i .args .w + x < here i .rows * s i .args .w
   in-all = in-buffer (here i .rows) (s i .args .w) (y i) x (i .rows-test .taken) (omega (arith, c .loop-test .taken, s i .pre .columns-in))
 
-  tested : above (s i .args .top) (s i .args .ps .now) (here i) (s i .args .w) (y i * s i .args .w + x) ≡ ltb (s i .args .top) (getD (s i .args .ps .now) (from + x) 0)
+  tested : above (s i .args .top) (s i .args .ps .now) (here i) (s i .args .w) (y i * s i .args .w + x)
+      ≡ ltb (s i .args .top) (getD (s i .args .ps .now) (from + x) 0)
   tested = at-visible (s i .args .top) (s i .args .ps .now) (here i) (s i .args .w) (s i .pre .columns-in) (y i) x (c .loop-test .taken)
-      ∙ ap (λ (k : ℕ). ltb (s i .args .top) (getD (s i .args .ps .now) (k + x) 0)) (sym (ap natAbs (from-is f)))
+      ∙ ap (λ (k : ℕ). ltb (s i .args .top) (getD (s i .args .ps .now) (k + x) 0)) (sym (place (row f)))
 
 loop-again : tie.Need-loop-again Inv-loop μ-loop Inv-rows μ-rows
 loop-again c =
-    let k = c .before .before in
-    let l = k .before .loop in
-    (omega (arith, k .loop-test .taken), l .inv .1, clean-more _ (y (i k) * s (i k) .args .w + l .x) _ (l .inv .2) (tested k ∙ le-ltb _ _ (c .if1 .left)) (omega arith))
+    let k = c .before .before in let l = k .before .loop in (
+      omega (arith, k .loop-test .taken),
+      l .inv .1,
+      clean-more _ (y (i k) * s (i k) .args .w + l .x) _ (l .inv .2) (tested k ∙ le-ltb _ _ (c .if1 .left)) (omega arith),
+    )
 
 rows-again : tie.Need-rows-again Inv-loop μ-loop Inv-rows μ-rows
 rows-again c =
-    let l = c .before .loop in
-    let r = c .before .before .before in
+    let l = c .before .loop in let r = c .before .before .before in
     let q : l .x ≡ here r .columns = omega (arith, l .inv .0, c .loop-test .left) in (
       omega (arith, r .rows-test .taken),
       l .inv .1,
-      clean-past (s r .args .top) (s r .args .ps .now) (here r) (s r .args .w) (s r .pre .columns-in) (y r) _ (λ j m. l .inv .2 j (omega (arith, q))) (omega arith),
+      clean-past (s r .args .top) (s r .args .ps .now) (here r) (s r .args .w) (s r .pre .columns-in) (y r) _ (λ j m. l .inv .2 j (omega (arith, q)))
+          (omega arith),
     )
 
 returns : tie.Need-returns Inv-loop μ-loop Inv-rows μ-rows
 returns c =
-    let b = c .before .before .before .before in
-    let l = c .before .rows .inv in
+    let b = c .before .before .before .before in let l = c .before .rows .inv in
     let q : c .before .rows .y ≡ b .args .spot .rows = omega (arith, l .0, c .rows-test .left) in
     ap found (l .1) ∙ sym (none-first (b .args .spot .rows * b .args .w) _ (λ j k. l .2 j (omega (arith, ap (λ (m : ℕ). m * b .args .w) q))))
 
 returns-2 : tie.Need-returns-2 Inv-loop μ-loop Inv-rows μ-rows
 returns-2 c =
-    let k = c .before .before in
-    sym (first-found (here (i k) .rows * s (i k) .args .w) _ (y (i k) * s (i k) .args .w + x k) (in-all k) (tested k ∙ lt-ltb _ _ (c .if1 .taken)) (k .before .loop .inv .2))
+    let k = c .before .before in let is = tested k ∙ lt-ltb _ _ (c .if1 .taken) in
+    sym (first-found (here (i k) .rows * s (i k) .args .w) _ (y (i k) * s (i k) .args .w + x k) (in-all k) is (k .before .loop .inv .2))
 
 pub search-above-spec : {M : Type 1} → statement M
 search-above-spec =
-    tie.close
-    (tie.spec
-    Inv-loop
-    μ-loop
-    Inv-rows
-    μ-rows
-    (λ c. (omega arith, refl, λ j l. let f : ⊥ = omega arith in absurd f))
-    (λ c. omega (arith, y-small c))
-    (λ c κs. search needs)
-    (λ c. let r = c .before in to-usize _ _ (from-is c) (row-here r .0) (omega (arith, row-here r .1, s r .good .0 .0)))
+    tie.close (tie.spec
+    Inv-loop μ-loop Inv-rows μ-rows (λ c. (omega arith, refl, λ j l. let f : ⊥ = omega arith in absurd f))
+    (λ c. omega (arith, c .rows-test .taken, s c .pre .height)) (λ c κs. search needs)
+    (λ c. counted (row c) (s (c .before) .good .0 .0))
     (λ c. (omega arith, c .before .before .rows .inv .1, λ j l. c .before .before .rows .inv .2 j (omega arith)))
-    (λ c. omega (arith, there c, s (i c) .good .0 .0))
-    (λ c. omega (arith, there c, s (i c) .good .0 .1))
+    (λ c. omega (arith, there c, s (i c) .good .0 .0)) (λ c. omega (arith, there c, s (i c) .good .0 .1))
     (λ c. there (c .before))
-    (λ c. let k = c .before .before in omega (arith, mul-le-mul (y-small (i k)) (s (i k) .pre .width)))
-    (λ c. let k = c .before .before in omega (arith, mul-le-mul (y-small (i k)) (s (i k) .pre .width), k .loop-test .taken, s (i k) .pre .columns-in, s (i k) .pre .width))
+    (λ c. let k = c .before .before in omega (arith, mul-le-mul (row (f k) .low) (s (i k) .pre .width))) (λ c.
+    let k = c .before .before in
+    omega (arith, mul-le-mul (row (f k) .low) (s (i k) .pre .width), k .loop-test .taken, s (i k) .pre .columns-in, s (i k) .pre .width))
     (λ c. let k = c .before .before in omega (arith, k .loop-test .taken, s (i k) .pre .columns-in, s (i k) .pre .width))
-    (λ c. omega arith)
-    loop-again
-    (λ c. omega (arith, y-small (c .before .before .before)))
-    (λ c. omega arith)
-    rows-again
-    returns
-    returns-2)
+    (λ c. omega arith) loop-again (λ c. omega (arith, row (c .before .before) .low)) (λ c. omega arith) rows-again
+    returns returns-2)

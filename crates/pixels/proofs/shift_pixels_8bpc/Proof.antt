@@ -1,14 +1,13 @@
 -- `pixels::shift_pixels_8bpc` meets its contract.
-use mathlib.Core.Path.{refl, _∙_, subst⁻¹}
-use Prim.Native.Nat.{_+_, _-_, _≤_, _<_}
+use mathlib.Core.Path.{refl, _∙_}
+use Prim.Native.Nat.{_-_}
 use native.Mathlib.Omega.{arith}
-use lib.IntN.{ℤ, natAbs}
-use lib.ListN.{length}
 use mir.Syntax.{w32}
-use mir.Val.{toZ}
+use mir.Val.{toZ, ofZ}
 use mir.ValLaws.{toZ-ofZ}
 use Rattle.pixels.specs.Adds.{add-row}
-use Rattle.pixels.proofs.Pixels.{RowTo, row-begun, row-long, row-next, row-done}
+use Rattle.pixels.proofs.Pixels.{RowTo, row-begun, row-long, row-done}
+use Rattle.pixels.proofs.Walks.{Here, here, onward, held-small}
 use Rattle.pixels.proofs.shift_pixels_8bpc.Statement.{statement}
 use Rattle.pixels.proofs.shift_pixels_8bpc.Tie as tie
 
@@ -18,40 +17,24 @@ Inv-loop ps₀ from v w x₀ ps x = RowTo 255 ps₀ from (λ i. toZ w32 v) w x p
 abbrev μ-loop : tie.MeasureT-loop
 μ-loop ps₀ from v w x₀ ps x = w - x
 
-module _ (c : tie.In-loop Inv-loop μ-loop) where
-  abbrev s : tie.Start Inv-loop μ-loop
-  s = c .before .before .before
+abbrev s : tie.In-loop Inv-loop μ-loop → tie.Start Inv-loop μ-loop
+s c = c .before .before .before
 
-  -- the pixel's place is in the slice, as it was and as it is
-  here : s .args .from + c .before .loop .x < length (s .args .ps .now)
-  here = omega (arith, c .loop-test .taken, s .pre .1)
-
-  here-still : s .args .from + c .before .loop .x < length (c .before .loop .ps)
-  here-still = omega (arith, here, row-long (c .before .loop .inv))
-
-loop-again : tie.Need-loop-again Inv-loop μ-loop
-loop-again c = let i = c .before .before in row-next (i .before .loop .inv) (i .loop-test .taken) refl (c .shift-pixel-8bpc .ensures)
+pixel : (c : tie.In-loop Inv-loop μ-loop)
+    → let a = s c .args in let l = c .before .loop in Here 255 (a .ps .now) (a .from) (λ x. toZ w32 (ofZ w32 (a .v))) (a .w) (l .x) (l .ps)
+pixel c = here (c .before .loop .inv) (c .loop-test .taken) (s c .pre .1)
 
 returns : tie.Need-returns Inv-loop μ-loop
 returns c =
-    let b = c .before .before .before in
-    let v = toZ-ofZ w32 (b .args .v) (b .fits .v) in
+    let b = c .before .before .before in let v = toZ-ofZ w32 (b .args .v) (b .fits .v) in
     row-done (c .before .loop .inv) (c .loop-test .left) ∙ (λ k. add-row 255 (b .args .ps .now) (b .args .from) (λ x. v k) (b .args .w))
 
 pub shift-pixels-8bpc-spec : {M : Type 1} → statement M
 shift-pixels-8bpc-spec =
-    tie.close
-    (tie.spec
-    Inv-loop
-    μ-loop
-    (λ c. row-begun _ _ _ _ _)
-    (λ c. omega (arith, here c, s c .good .0 .0))
-    (λ c. here-still (c .before))
-    (λ c κs. let b = s (c .before) in subst⁻¹ (λ (z : ℤ). natAbs z ≤ 16777216) (toZ-ofZ w32 (b .args .v) (b .fits .v)) (b .pre .0))
-    (λ c. let i = c .before .before in omega (arith, here i, s i .good .0 .0))
-    (λ c. here-still (c .before .before))
-    (λ c. let i = c .before .before in omega (arith, i .loop-test .taken, s i .fits .w))
-    (λ c. omega arith)
-    loop-again
-    (λ c. row-long (c .before .loop .inv))
+    tie.close (tie.spec
+    Inv-loop μ-loop (λ c. row-begun _ _ _ _ _) (λ c. omega (arith, pixel c .first, s c .good .0 .0))
+    (λ c. pixel (c .before) .still) (λ c κs. let b = s (c .before) in held-small _ (b .fits .v) (b .pre .0))
+    (λ c. let i = c .before .before in omega (arith, pixel i .first, s i .good .0 .0)) (λ c. pixel (c .before .before) .still)
+    (λ c. let i = c .before .before in omega (arith, i .loop-test .taken, s i .fits .w)) (λ c. omega arith)
+    (λ c. onward (pixel (c .before .before)) refl (c .shift-pixel-8bpc .ensures)) (λ c. row-long (c .before .loop .inv))
     returns)

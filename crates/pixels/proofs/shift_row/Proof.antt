@@ -14,9 +14,8 @@ held s = toZ-ofZ w32 (s .args .v) (s .fits .v)
 
 returns : tie.Need-returns
 returns c =
-    let t = c .before .before .before .before in
-    let s = t .before .before in
-    c .before .before .shift-pixels .ensures ∙ (λ i. add-row (s .args .top) (s .args .ps .now) (s .args .from) (λ x. held s i) (sym (t .if1 .taken) i))
+    let t = c .before .before .before .before in let s = t .before .before in c .before .before .shift-pixels .ensures
+    ∙ (λ i. add-row (s .args .top) (s .args .ps .now) (s .args .from) (λ x. held s i) (sym (t .if1 .taken) i))
 
 returns-2 : tie.Need-returns-2
 returns-2 c =

@@ -29,33 +29,22 @@ loop-holds c = (refl, omega arith)
 loop-again : tie.Need-loop-again Inv-loop μ-loop
 unfolding fill
 loop-again c =
-    let h = c .before .before in
-    let s = h .before in
-    let v = toZ-ofZ w32 (at (s .args .t .now) (s .args .j + h .loop .x)) (record { sfits = c .v .given }) in
-    ((λ k. set (h .loop .inv .0 k) (s .args .i + h .loop .x) (v k)) ∙ ap (fill (s .args .u .now) (s .args .i) (λ k. at (s .args .t .now) (s .args .j + k))) (sym (add-one (h .loop .x))), omega arith)
+    let h = c .before .before in let s = h .before in
+    let v = toZ-ofZ w32 (at (s .args .t .now) (s .args .j + h .loop .x)) (record { sfits = c .v .given }) in (
+      (λ k. set (h .loop .inv .0 k) (s .args .i + h .loop .x) (v k))
+          ∙ ap (fill (s .args .u .now) (s .args .i) (λ k. at (s .args .t .now) (s .args .j + k))) (sym (add-one (h .loop .x))),
+      omega arith,
+    )
 
 returns : tie.Need-returns Inv-loop μ-loop
 returns c =
-    let h = c .before in
-    let s = h .before in
-    let all : h .loop .x ≡ s .args .n = omega arith in
+    let h = c .before in let s = h .before in let all : h .loop .x ≡ s .args .n = omega arith in
     h .loop .inv .0 ∙ ap (fill (s .args .u .now) (s .args .i) (λ k. at (s .args .t .now) (s .args .j + k))) all
 
 pub copy-spec : {M : Type 1} → statement M
 copy-spec =
-    tie.close
-    (tie.spec
-    Inv-loop
-    μ-loop
-    loop-holds
-    (λ c. omega (arith, c .before .before .pre .1))
-    (λ c. omega (arith, c .before .before .pre .1))
-    (λ c. omega (arith, c .before .before .pre .1))
-    (λ c. omega (arith, c .before .before .before .pre .0))
-    (λ c. omega (arith, c .before .before .before .pre .0))
+    tie.close (tie.spec Inv-loop μ-loop loop-holds (λ c. omega (arith, c .before .before .pre .1))
+    (λ c. omega (arith, c .before .before .pre .1)) (λ c. omega (arith, c .before .before .pre .1))
+    (λ c. omega (arith, c .before .before .before .pre .0)) (λ c. omega (arith, c .before .before .before .pre .0))
     (λ c. omega (arith, as-long (c .before .before), c .before .before .before .pre .0))
-    (λ c. omega arith)
-    (λ c. omega arith)
-    loop-again
-    (λ c. as-long (c .before))
-    returns)
+    (λ c. omega arith) (λ c. omega arith) loop-again (λ c. as-long (c .before)) returns)

@@ -42,32 +42,23 @@ module _ (c : tie.In-loop Inv-loop μ-loop) where
 
 loop-again : tie.Need-loop-again Inv-loop μ-loop
 loop-again c =
-    let i = c .before .before .before in
-    let f : ℕ → ℕ → _ = λ v x. at (s i .args .t .now) (v * s i .args .w + x) in
-    let is = c .copy .ensures ∙ ap (λ (k : ℕ). fill (i .before .loop .u) (k * 32) (f (y i)) (s i .args .w)) (place-is i) in
-    (laid-more (s i .args .h) (s i .args .w) (y i) f (i .before .loop .u) (c .copy .last .0) (s i .pre .is-length) (i .loop-test .taken) (s i .pre .narrow) (i .before .loop .inv .0) is, omega arith)
+    let i = c .before .before .before in let f : ℕ → ℕ → _ = λ v x. at (s i .args .t .now) (v * s i .args .w + x) in
+    let is = c .copy .ensures ∙ ap (λ (k : ℕ). fill (i .before .loop .u) (k * 32) (f (y i)) (s i .args .w)) (place-is i) in (
+      laid-more (s i .args .h) (s i .args .w) (y i) f (i .before .loop .u) (c .copy .last .0) (s i .pre .is-length)
+          (i .loop-test .taken) (s i .pre .narrow) (i .before .loop .inv .0) is,
+      omega arith,
+    )
 
 pub lay-spec : {M : Type 1} → statement M
 lay-spec =
-    tie.close
-    (tie.spec
-    Inv-loop
-    μ-loop
-    (λ c. omega (arith, not-0 (c .args .h) (c .pre .is-length)))
+    tie.close (tie.spec Inv-loop μ-loop (λ c. omega (arith, not-0 (c .args .h) (c .pre .is-length)))
     (λ c. (laid-none (c .args .h) (c .args .w) _ (c .args .u .now) (c .pre .lends .u-long), omega arith))
-    (λ c. omega (arith, in-table c))
-    (λ c. omega (arith, in-table c))
+    (λ c. omega (arith, in-table c)) (λ c. omega (arith, in-table c))
     (λ c. record { fits = le-trans (placed (c .before)) (lit≤ tt) })
-    (λ c. omega (arith, placed (c .before .before)))
-    (λ c. omega (arith, row-in (c .before .before)))
-    (λ c κs.
+    (λ c. omega (arith, placed (c .before .before))) (λ c. omega (arith, row-in (c .before .before))) (λ c κs.
     let i = c .before .before in
     (omega (arith, placed i, s i .pre .narrow, i .before .loop .inv .0 .long), omega (arith, row-in i, s i .pre .t-long)))
     (λ c. let i = c .before .before .before in omega (arith, i .loop-test .taken, at-most-32 (s i .args .h) (s i .pre .is-length)))
-    (λ c. omega arith)
-    loop-again
-    (λ c.
-    let e = c .before .loop in
-    let q = c .before .before in
-    let all : e .y ≡ q .args .h = omega arith in
+    (λ c. omega arith) loop-again (λ c.
+    let e = c .before .loop in let q = c .before .before in let all : e .y ≡ q .args .h = omega arith in
     subst (λ (k : ℕ). Laid (q .args .h) (q .args .w) k (λ v x. at (q .args .t .now) (v * q .args .w + x)) (e .u)) all (e .inv .0)))

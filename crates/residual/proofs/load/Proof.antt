@@ -42,32 +42,30 @@ module _ (c : tie.In-loop Inv-loop μ-loop) where
 
 loop-again : tie.Need-loop-again Inv-loop μ-loop
 loop-again c =
-    let i = c .before .before .before in
-    let p = s i .args .plan in
+    let i = c .before .before .before in let p = s i .args .plan in
     let f : ℕ → ℕ → _ = λ k y. loaded p (s i .args .coeff .now) y k in
-    let is = c .load-column .ensures ∙ ap (λ (k : ℕ). fill (i .before .loop .u) (k * 32) (f (x i)) (s i .args .r)) (place-is i) in
-    (laid-more (p .w) (s i .args .r) (x i) f (i .before .loop .u) (c .load-column .last .0) (s i .pre .sized .width) (i .loop-test .taken) (few i) (i .before .loop .inv .0) is, omega arith)
+    let is = c .load-column .ensures ∙ ap (λ (k : ℕ). fill (i .before .loop .u) (k * 32) (f (x i)) (s i .args .r)) (place-is i) in (
+      laid-more (p .w) (s i .args .r) (x i) f (i .before .loop .u) (c .load-column .last .0) (s i .pre .sized .width)
+          (i .loop-test .taken) (few i) (i .before .loop .inv .0) is,
+      omega arith,
+    )
 
 pub load-spec : {M : Type 1} → statement M
 load-spec =
-    tie.close
-    (tie.spec
-    Inv-loop
-    μ-loop
-    (λ c. omega (arith, not-0 (c .args .plan .w) (c .pre .sized .width)))
+    tie.close (tie.spec Inv-loop μ-loop (λ c. omega (arith, not-0 (c .args .plan .w) (c .pre .sized .width)))
     (λ c. (laid-none (c .args .plan .w) (c .args .r) _ (c .args .u .now) (c .pre .long), omega arith))
-    (λ c. omega (arith, in-table c))
-    (λ c. omega (arith, in-table c))
-    (λ c. record { fits = le-trans (placed (c .before)) (lit≤ tt) })
-    (λ c. omega (arith, placed (c .before .before)))
-    (λ c κs.
-    let i = c .before .before in
-    record { sized = s i .pre .sized; coefs = s i .pre .coefs; x-in = i .loop-test .taken; some-rows = s i .pre .some-rows; room = omega (arith, placed i, few i); long = i .before .loop .inv .0 .long })
+    (λ c. omega (arith, in-table c)) (λ c. omega (arith, in-table c))
+    (λ c. record { fits = le-trans (placed (c .before)) (lit≤ tt) }) (λ c. omega (arith, placed (c .before .before))) (λ c κs.
+    let i = c .before .before in record {
+      sized = s i .pre .sized;
+      coefs = s i .pre .coefs;
+      x-in = i .loop-test .taken;
+      some-rows = s i .pre .some-rows;
+      room = omega (arith, placed i, few i);
+      long = i .before .loop .inv .0 .long;
+    })
     (λ c. let i = c .before .before .before in omega (arith, i .loop-test .taken, w-small (s i .args .plan) (s i .pre .sized)))
     (λ c. let i = c .before .before .before in omega (arith, i .loop-test .taken))
-    loop-again
-    (λ c.
-    let h = c .before .loop in
-    let q = c .before .before in
-    let all : h .x ≡ q .args .plan .w = omega arith in
+    loop-again (λ c.
+    let h = c .before .loop in let q = c .before .before in let all : h .x ≡ q .args .plan .w = omega arith in
     subst (λ (k : ℕ). Laid (q .args .plan .w) (q .args .r) k (λ i y. loaded (q .args .plan) (q .args .coeff .now) y i) (h .u)) all (h .inv .0)))

@@ -36,26 +36,27 @@ module _ (c : tie.In-loop Inv-loop μ-loop) where
 
 enter-requires : tie.Need-enter-requires Inv-loop μ-loop
 enter-requires c κs =
-    let i = c .before in
-    let p = s i .args .plan in
-    let v = toZ-ofZ w32 (at (s i .args .coeff .now) (y i + s i .args .x * p .h)) (record { sfits = c .v .given }) in
-    ((w-small p (s i .pre .sized), h-small p (s i .pre .sized)), subst⁻¹ (λ (z : ℤ). natAbs z ≤ 524288) v (s i .pre .coefs .small (y i + s i .args .x * p .h) (among i)))
+    let i = c .before in let p = s i .args .plan in
+    let v = toZ-ofZ w32 (at (s i .args .coeff .now) (y i + s i .args .x * p .h)) (record { sfits = c .v .given }) in (
+      (w-small p (s i .pre .sized), h-small p (s i .pre .sized)),
+      subst⁻¹ (λ (z : ℤ). natAbs z ≤ 524288) v (s i .pre .coefs .small (y i + s i .args .x * p .h) (among i)),
+    )
 
 loop-again : tie.Need-loop-again Inv-loop μ-loop
 unfolding fill
 loop-again c =
-    let e = c .before in
-    let i = e .before in
-    let p = s i .args .plan in
+    let e = c .before in let i = e .before in let p = s i .args .plan in
     let v = toZ-ofZ w32 (at (s i .args .coeff .now) (y i + s i .args .x * p .h)) (record { sfits = e .v .given }) in
-    let n = toZ-ofZ w32 (c .enter .result) (record { sfits = c .enter .ok }) ∙ c .enter .ensures ∙ ap (entering (p .rows) (p .w) (p .h)) v in
-    ((λ k. set (i .before .loop .inv .0 k) (s i .args .from + y i) (n k)) ∙ ap (fill (s i .args .u .now) (s i .args .from) (λ q. loaded p (s i .args .coeff .now) q (s i .args .x))) (sym (add-one (y i))), omega arith)
+    let n = toZ-ofZ w32 (c .enter .result) (record { sfits = c .enter .ok }) ∙ c .enter .ensures ∙ ap (entering (p .rows) (p .w) (p .h)) v in (
+      (λ k. set (i .before .loop .inv .0 k) (s i .args .from + y i) (n k))
+          ∙ ap (fill (s i .args .u .now) (s i .args .from) (λ q. loaded p (s i .args .coeff .now) q (s i .args .x)))
+          (sym (add-one (y i))),
+      omega arith,
+    )
 
 returns : tie.Need-returns Inv-loop μ-loop
 returns c =
-    let h = c .before in
-    let b = h .before in
-    let all : h .loop .y ≡ b .args .r = omega arith in
+    let h = c .before in let b = h .before in let all : h .loop .y ≡ b .args .r = omega arith in
     h .loop .inv .0 ∙ ap (fill (b .args .u .now) (b .args .from) (λ q. loaded (b .args .plan) (b .args .coeff .now) q (b .args .x))) all
 
 loop-holds : tie.Need-loop-holds Inv-loop μ-loop
@@ -64,20 +65,9 @@ loop-holds c = (refl, omega arith)
 
 pub load-column-spec : {M : Type 1} → statement M
 load-column-spec =
-    tie.close
-    (tie.spec
-    Inv-loop
-    μ-loop
-    loop-holds
-    (λ c. omega (arith, there c))
-    (λ c. omega (arith, there c))
-    (λ c. omega (arith, there c))
-    (λ c. there c)
-    enter-requires
+    tie.close (tie.spec Inv-loop μ-loop loop-holds (λ c. omega (arith, there c)) (λ c. omega (arith, there c))
+    (λ c. omega (arith, there c)) (λ c. there c) enter-requires
     (λ c. let i = c .before .before in omega (arith, s i .pre .room))
     (λ c. let i = c .before .before in omega (arith, s i .pre .room))
     (λ c. let i = c .before .before in omega (arith, s i .pre .room))
-    (λ c. let i = c .before .before in omega (arith, s i .pre .some-rows))
-    (λ c. omega arith)
-    loop-again
-    returns)
+    (λ c. let i = c .before .before in omega (arith, s i .pre .some-rows)) (λ c. omega arith) loop-again returns)

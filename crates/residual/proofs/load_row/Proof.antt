@@ -26,7 +26,12 @@ start c = c .before .before
 
 -- the coefficient is there, and so is its place in the block
 there : (c : tie.In-loop Inv-loop μ-loop) → let s = start c in s .args .y + c .before .loop .x * s .args .plan .h < length (s .args .coeff .now)
-there c = let s = start c in omega (arith, by-column (s .args .plan .w) (s .args .plan .h) (s .args .y) (c .before .loop .x) (s .pre .y-in) (c .loop-test .taken), s .pre .coefs .count)
+there c = let s = start c in
+    omega (
+      arith,
+      by-column (s .args .plan .w) (s .args .plan .h) (s .args .y) (c .before .loop .x) (s .pre .y-in) (c .loop-test .taken),
+      s .pre .coefs .count,
+    )
 
 here : (c : tie.In-loop Inv-loop μ-loop) → let s = start c in s .args .y * s .args .plan .w + c .before .loop .x < s .args .plan .h * s .args .plan .w
 here c = let s = start c in by-row (s .args .plan .w) (s .args .plan .h) (s .args .y) (c .before .loop .x) (s .pre .y-in) (c .loop-test .taken)
@@ -39,33 +44,31 @@ as-long c = ap length (c .loop .inv .0) ∙ fill-length _ _ _ (c .loop .x)
 
 enter-requires : tie.Need-enter-requires Inv-loop μ-loop
 enter-requires c κs =
-    let i = c .before in
-    let s = start i in
-    let p = s .args .plan in
+    let i = c .before in let s = start i in let p = s .args .plan in
     let v = toZ-ofZ w32 (at (s .args .coeff .now) (s .args .y + i .before .loop .x * p .h)) (record { sfits = c .v .given }) in (
       (w-small p (s .pre .sized), h-small p (s .pre .sized)),
-      subst⁻¹ (λ (z : ℤ). natAbs z ≤ 524288) v (s .pre .coefs .small (s .args .y + i .before .loop .x * p .h) (by-column (p .w) (p .h) (s .args .y) (i .before .loop .x) (s .pre .y-in) (i .loop-test .taken))),
+      subst⁻¹ (λ (z : ℤ). natAbs z ≤ 524288) v (s .pre .coefs .small (s .args .y + i .before .loop .x * p .h)
+          (by-column (p .w) (p .h) (s .args .y) (i .before .loop .x) (s .pre .y-in) (i .loop-test .taken))),
     )
 
 loop-again : tie.Need-loop-again Inv-loop μ-loop
 unfolding fill
 loop-again c =
-    let e = c .before in
-    let i = e .before in
-    let s = start i in
-    let h = i .before .loop in
-    let p = s .args .plan in
+    let e = c .before in let i = e .before in let s = start i in let h = i .before .loop in let p = s .args .plan in
     let f : ℕ → ℤ = λ x. entering (p .rows) (p .w) (p .h) (at (s .args .coeff .now) (s .args .y + x * p .h)) in
     let v = toZ-ofZ w32 (at (s .args .coeff .now) (s .args .y + h .x * p .h)) (record { sfits = e .v .given }) in
-    let w = toZ-ofZ w32 (c .enter .result) (record { sfits = c .enter .ok }) ∙ c .enter .ensures ∙ ap (entering (p .rows) (p .w) (p .h)) v in
-    ((λ k. set (h .inv .0 k) (s .args .y * p .w + h .x) (w k)) ∙ ap (fill (s .args .t .now) (s .args .y * p .w) f) (sym (add-one (h .x))), omega arith)
+    let w = toZ-ofZ w32 (c .enter .result) (record { sfits = c .enter .ok }) ∙ c .enter .ensures ∙ ap (entering (p .rows) (p .w) (p .h)) v in (
+      (λ k. set (h .inv .0 k) (s .args .y * p .w + h .x) (w k))
+          ∙ ap (fill (s .args .t .now) (s .args .y * p .w) f) (sym (add-one (h .x))),
+      omega arith,
+    )
 
 returns : tie.Need-returns Inv-loop μ-loop
 returns c =
-    let h = c .before in
-    let s = h .before in
-    let all : h .loop .x ≡ s .args .plan .w = omega arith in
-    h .loop .inv .0 ∙ ap (fill (s .args .t .now) (s .args .y * s .args .plan .w) (λ i. entering (s .args .plan .rows) (s .args .plan .w) (s .args .plan .h) (at (s .args .coeff .now) (s .args .y + i * s .args .plan .h)))) all
+    let h = c .before in let s = h .before in let all : h .loop .x ≡ s .args .plan .w = omega arith in
+    h .loop .inv .0 ∙ ap (fill (s .args .t .now) (s .args .y * s .args .plan .w)
+    (λ i. entering (s .args .plan .rows) (s .args .plan .w) (s .args .plan .h)
+    (at (s .args .coeff .now) (s .args .y + i * s .args .plan .h)))) all
 
 loop-holds : tie.Need-loop-holds Inv-loop μ-loop
 unfolding fill
@@ -73,22 +76,9 @@ loop-holds c = (refl, omega arith)
 
 pub load-row-spec : {M : Type 1} → statement M
 load-row-spec =
-    tie.close
-    (tie.spec
-    Inv-loop
-    μ-loop
-    loop-holds
-    (λ c. omega (arith, there c))
-    (λ c. omega (arith, there c))
-    (λ c. omega (arith, there c))
-    (λ c. there c)
-    enter-requires
-    (λ c. omega (arith, small-place (c .before .before)))
-    (λ c. omega (arith, small-place (c .before .before)))
-    (λ c. omega (arith, small-place (c .before .before)))
+    tie.close (tie.spec Inv-loop μ-loop loop-holds (λ c. omega (arith, there c)) (λ c. omega (arith, there c))
+    (λ c. omega (arith, there c)) (λ c. there c) enter-requires (λ c. omega (arith, small-place (c .before .before)))
+    (λ c. omega (arith, small-place (c .before .before))) (λ c. omega (arith, small-place (c .before .before)))
     (λ c. omega (arith, here (c .before .before), as-long (c .before .before .before), start (c .before .before) .pre .room))
-    (λ c. omega (arith, small-place (c .before .before)))
-    (λ c. omega arith)
-    loop-again
-    (λ c. as-long (c .before))
+    (λ c. omega (arith, small-place (c .before .before))) (λ c. omega arith) loop-again (λ c. as-long (c .before))
     returns)

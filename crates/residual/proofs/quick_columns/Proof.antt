@@ -12,36 +12,33 @@ use borrow.Author.Needs.{needs}
 use Rattle.whole.specs.Lists.{at}
 use Rattle.whole.proofs.Counts.{any-none}
 use Rattle.whole.proofs.Held.{to2}
-use Rattle.av1.specs.Sides.{len, side}
+use Rattle.levels.specs.Sides.{len, side}
 use Rattle.lanes.specs.Stages.{Ready}
 use Rattle.lanes.proofs.Chain.{held}
 use Rattle.itx_1d.proofs.Strides.{at-most-32}
-use Rattle.residual.specs.Inner.{ColumnsAre}
 use Rattle.residual.proofs.Quick.{ready, value, unmarked, all-left, gave-up, succeeded}
 use Rattle.residual.proofs.quick_columns.Statement.{statement}
 use Rattle.residual.proofs.quick_columns.Tie as tie
 
 -- where r is at most half of h, the rows of the lower half are zero
-lower-zero : (s : tie.Start) (y x : ℕ) → leb (s .args .r * 2) (s .args .h) ≡ true → s .args .h / 2 ≤ y → at (s .args .t .now) (y * s .args .w + x) ≡ pos 0
+lower-zero : (s : tie.Start) (y x : ℕ) → leb (s .args .r * 2) (s .args .h) ≡ true → s .args .h / 2 ≤ y
+    → at (s .args .t .now) (y * s .args .w + x) ≡ pos 0
 lower-zero s y x few low =
     let r-in : s .args .r ≤ y = omega (arith, leb-true (s .args .r * 2) (s .args .h) few, low) in
     s .pre .2 .zeros (y * s .args .w + x) (le-trans (mul-le-mul-right (s .args .w) r-in) (omega arith))
 
 dct-requires : tie.Need-dct-requires
 dct-requires c κs =
-    let e = c .before in
-    let s = e .before .before .before in
+    let e = c .before in let s = e .before .before .before in
     to2 (Ready (leb (s .args .r * 2) (s .args .h)) (len (side (s .args .h))) (s .args .w) (e .lay .last .0)) (s .fits .min) (s .fits .max)
-    (ready (s .pre .0 .is-length) (e .lay .ensures) (leb (s .args .r * 2) (s .args .h)) (s .pre .0 .limited tt) (s .pre .0 .narrow) (λ y x h g. s .pre .0 .small (y * s .args .w + x)) (λ few y x low h g. lower-zero s y x few low))
+    (ready (s .pre .0 .is-length) (e .lay .ensures) (leb (s .args .r * 2) (s .args .h)) (s .pre .0 .limited tt)
+    (s .pre .0 .narrow) (λ y x h g. s .pre .0 .small (y * s .args .w + x)) (λ few y x low h g. lower-zero s y x few low))
 
 returns-2 : tie.Need-returns-2
 returns-2 c =
-    let d = c .before .before .before .before .before in
-    let e = d .before .before in
-    let s = e .before .before .before in
+    let d = c .before .before .before .before .before in let e = d .before .before in let s = e .before .before .before in
     let all = all-left (held (s .fits .min) (s .fits .max) (d .dct .ensures)) (omega (arith, c .before .before .before .before .if1 .left)) in
-    let taken = c .before .take .ensures in
-    succeeded
+    let taken = c .before .take .ensures in succeeded
     (record {
       elements = record {
         passed = λ y x h g. taken .rows y x h g ∙ value (s .pre .0 .is-length) (e .lay .ensures) (s .pre .0 .limited tt) all x g y h;
@@ -53,16 +50,12 @@ returns-2 c =
 
 pub quick-columns-spec : {M : Type 1} → statement M
 quick-columns-spec =
-    tie.close
-    (tie.spec
-    (λ c κs. search needs)
-    (λ c. let s = c .before .before .before .before in record { fits = omega (arith, s .pre .2 .some-rows, at-most-32 (s .args .h) (s .pre .0 .is-length)) })
-    dct-requires
-    (λ c. search needs)
-    (λ c. gave-up)
-    (λ c κs.
-    let d = c .before .before .before in
-    let s = d .before .before .before .before .before in
-    record { u-long = d .dct .ensures .long; narrow = s .pre .0 .narrow; low = at-most-32 (s .args .h) (s .pre .0 .is-length); long = s .pre .0 .long })
-    (λ c. search needs)
-    returns-2)
+    tie.close (tie.spec (λ c κs. search needs) (λ c. let s = c .before .before .before .before in
+    record { fits = omega (arith, s .pre .2 .some-rows, at-most-32 (s .args .h) (s .pre .0 .is-length)) })
+    dct-requires (λ c. search needs) (λ c. gave-up) (λ c κs.
+    let d = c .before .before .before in let s = d .before .before .before .before .before in record {
+      u-long = d .dct .ensures .long;
+      narrow = s .pre .0 .narrow;
+      low = at-most-32 (s .args .h) (s .pre .0 .is-length);
+      long = s .pre .0 .long;
+    }) (λ c. search needs) returns-2)

@@ -12,7 +12,7 @@ use lib.ListN.{set}
 use lib.Seq.{set-getD}
 use Rattle.whole.specs.Lists.{at}
 use Rattle.whole.proofs.Counts.{any-none}
-use Rattle.itx_1d.specs.declared.Kind.the-variants.{Wht}
+use Rattle.levels.specs.declared.Kind.the-variants.{Wht}
 use Rattle.bitdepth.specs.declared.Depth.{Depth}
 use Rattle.bitdepth.specs.declared.Depth.the-variants.{Eight}
 use Rattle.bitdepth.specs.Depths.{row-range, column-range}
@@ -33,13 +33,15 @@ fill-self t (suc k) = let z : 0 + k ≡ k = omega arith in (λ i. set (fill-self
 
 -- a WHT is the same in every range, and has no mark
 module _ (d : Depth) where
-  rows-are : (c : List ℤ) (r : ℕ) (t : List ℤ) → HoldsIn 16 4 r (λ y x. at (row-made (wht-plan 0) 0 c y .values) x) t → RowsAreIn 16 First (wht-plan 0) (row-range d) c r t false
+  rows-are : (c : List ℤ) (r : ℕ) (t : List ℤ) → HoldsIn 16 4 r (λ y x. at (row-made (wht-plan 0) 0 c y .values) x) t
+      → RowsAreIn 16 First (wht-plan 0) (row-range d) c r t false
   unfolding Rattle.itx_1d.specs.Passes.pass
   rows-are c r t h = record { elements = record { rows = h .rows; rest = h .rest; long = h .long }; marked = sym (any-none r _ (λ y l. refl)) }
 
   columns-are : (t u : List ℤ) → Columned 16 First Wht 0 4 4 t 4 u → ColumnsAreIn 16 First Wht (column-range d) 4 4 t 4 u false
   unfolding Rattle.itx_1d.specs.Passes.pass
-  columns-are t u h = record { elements = record { passed = h .passed; waiting = h .waiting; long = h .long }; marked = sym (any-none 4 _ (λ x l. refl)) }
+  columns-are t u h = record
+      { elements = record { passed = h .passed; waiting = h .waiting; long = h .long }; marked = sym (any-none 4 _ (λ x l. refl)) }
 
 -- after the rows
 module _ (c : tie.After-rows-of-wht) where
@@ -53,17 +55,19 @@ module _ (c : tie.After-rows-of-wht) where
   unrounded = sym (fill-self (c .rows-of-wht .last .0) (s .args .r * 4))
 
   small : (i : ℕ) → natAbs (at (c .rows-of-wht .last .0) i) ≤ 16777216
-  small i = le-trans (rowed-left First (wht-plan 0) Eight (s .args .coeff .now) (s .args .r) (c .rows-of-wht .last .0) _ [] false false (s .pre .sized) served (lit≤ tt) (s .pre .coefs) (s .pre .some-rows) (rowed Eight) unrounded i .of-wht tt) (lit≤ tt)
+  small i = le-trans (rowed-left First (wht-plan 0) Eight (s .args .coeff .now) (s .args .r) (c .rows-of-wht .last .0) _ []
+      false false (s .pre .sized) served (lit≤ tt) (s .pre .coefs) (s .pre .some-rows) (rowed Eight) unrounded i .of-wht tt) (lit≤ tt)
 
 returns : tie.Need-returns
 returns c shift d =
-    let u = c .before .columns-of-wht in
-    let a = c .before .before .before .before in
-    let b = s a in
+    let u = c .before .columns-of-wht in let a = c .before .before .before .before in let b = s a in
     let t = a .rows-of-wht .last .0 in
-    let h = resolved First (wht-plan 0) d (b .args .coeff .now) (b .args .r) t t (u .last .0) false false (b .pre .sized) served (lit≤ tt) (b .pre .coefs) (b .pre .some-rows) (rowed a d) (unrounded a) (columns-are d t (u .last .0) (u .ensures)) in
+    let h = resolved First (wht-plan 0) d (b .args .coeff .now) (b .args .r) t t (u .last .0) false false (b .pre .sized) served
+    (lit≤ tt) (b .pre .coefs) (b .pre .some-rows) (rowed a d) (unrounded a) (columns-are d t (u .last .0) (u .ensures)) in
     -- no step takes the shift
     record { elements = h .elements; small = h .small; long = h .long; mark-is = h .mark-is }
 
 pub resolve-wht-spec : {M : Type 1} → statement M
-resolve-wht-spec = tie.close (tie.spec (λ c κs. search needs) (λ c κs. let a = c .before .before in (a .rows-of-wht .ensures .long, small a)) (λ c. search needs) returns)
+resolve-wht-spec = tie.close
+    (tie.spec (λ c κs. search needs) (λ c κs. let a = c .before .before in (a .rows-of-wht .ensures .long, small a))
+    (λ c. search needs) returns)

@@ -21,21 +21,18 @@ returns c = let s = c .before in by s 0 (c .match .keys1) (toZ-ofZ w32 (s .args 
 
 returns-2 : tie.Need-returns-2
 unfolding Rattle.whole.specs.Numbers.round2 Rattle.whole.specs.Numbers._>>_
-returns-2 c = let s = c .before in by s 1 (c .match .keys2) (reads (s .args .v ∷ []) (1073741823 ∷ []) (s .pre .0, tt) (var 0 ⊕ lit (pos 1) ≫ 1) w32 tt)
+returns-2 c = let s = c .before in by s 1 (c .match .keys2)
+    (reads (s .args .v ∷ []) (1073741823 ∷ []) (s .pre .0, tt) (var 0 ⊕ lit (pos 1) ≫ 1) w32 tt)
 
 returns-3 : tie.Need-returns-3
 unfolding Rattle.whole.specs.Numbers.round2 Rattle.whole.specs.Numbers._>>_
 returns-3 c =
-    let s = c .before in
-    let two : s .args .shift ≡ 2 = omega (arith, c .match .rest .0 .1, c .match .rest .1) in
+    let s = c .before in let two : s .args .shift ≡ 2 = omega (arith, c .match .rest .0 .1, c .match .rest .1) in
     by s 2 two (reads (s .args .v ∷ []) (1073741823 ∷ []) (s .pre .0, tt) (var 0 ⊕ lit (pos 2) ≫ 2) w32 tt)
 
 pub rounded-spec : {M : Type 1} → statement M
 rounded-spec =
-    tie.close
-    (tie.spec
+    tie.close (tie.spec
     (λ c. let s = c .before in need (s .args .v ∷ []) (1073741823 ∷ []) (s .pre .0, tt) (var 0 ⊕ lit (pos 1)) w32 tt)
     (λ c. let s = c .before in need (s .args .v ∷ []) (1073741823 ∷ []) (s .pre .0, tt) (var 0 ⊕ lit (pos 2)) w32 tt)
-    returns
-    returns-2
-    returns-3)
+    returns returns-2 returns-3)

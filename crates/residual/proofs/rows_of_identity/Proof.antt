@@ -27,18 +27,16 @@ abbrev μ-loop : tie.MeasureT-loop
 
 -- y rows fit the block
 room : (s : tie.Start Inv-loop μ-loop) (y : ℕ) → y ≤ s .args .r → y * s .args .plan .w ≤ 1024
-room s y l = le-trans (mul-le-mul-right {m = y} {n = s .args .plan .h} (s .args .plan .w) (le-trans l (s .pre .0 .some-rows))) (area (s .args .plan) (s .pre .0 .sized))
+room s y l = le-trans (mul-le-mul-right {m = y} {n = s .args .plan .h} (s .args .plan .w) (le-trans l (s .pre .0 .some-rows)))
+    (area (s .args .plan) (s .pre .0 .sized))
 
 loop-again : tie.Need-loop-again Inv-loop μ-loop
 loop-again c =
-    let i = c .before .before .before in
-    let s = i .before .before in
-    let w = s .args .plan .w in
-    let h = i .before .loop in
-    let f = loaded (s .args .plan) (s .args .coeff .now) in
-    let is = c .before .load-row .ensures in (
+    let i = c .before .before .before in let s = i .before .before in let w = s .args .plan .w in let h = i .before .loop in
+    let f = loaded (s .args .plan) (s .args .coeff .now) in let is = c .before .load-row .ensures in (
       record {
-        rows = rows-more w (h .y) f (h .t) (c .before .load-row .last .0) (h .inv .0 .long) (room s (suc (h .y)) (i .loop-test .taken)) (h .inv .0 .rows) is;
+        rows = rows-more w (h .y) f (h .t) (c .before .load-row .last .0) (h .inv .0 .long)
+            (room s (suc (h .y)) (i .loop-test .taken)) (h .inv .0 .rows) is;
         rest = λ k l. rest-stays w (h .y) f (h .t) (c .before .load-row .last .0) is k l ∙ h .inv .0 .rest k (omega arith);
         long = ap length is ∙ fill-length _ _ _ w ∙ h .inv .0 .long;
       },
@@ -53,7 +51,8 @@ module _ (c : tie.After-scale-arg Inv-loop μ-loop) where
   holds : Holds (s .args .plan .w) (s .args .r) (loaded (s .args .plan) (s .args .coeff .now)) (c .before .before .loop .t)
   holds =
       let all : c .before .before .loop .y ≡ s .args .r = omega arith in
-      subst (λ (k : ℕ). Holds (s .args .plan .w) k (loaded (s .args .plan) (s .args .coeff .now)) (c .before .before .loop .t)) all (c .before .before .loop .inv .0)
+      subst (λ (k : ℕ). Holds (s .args .plan .w) k (loaded (s .args .plan) (s .args .coeff .now)) (c .before .before .loop .t))
+      all (c .before .before .loop .inv .0)
 
   few : s .args .r * s .args .plan .w ≤ 1024
   few = room s (s .args .r) (omega arith)
@@ -62,23 +61,22 @@ module _ (c : tie.After-scale-arg Inv-loop μ-loop) where
   small =
       let p = s .args .plan in
       at-holds (λ z. natAbs z ≤ 524288) (p .w) (s .args .r) _ (c .before .before .loop .t) (not-0 (p .w) (s .pre .0 .sized .width)) holds (lit≤ tt)
-      (λ y x l g. entering-small (p .rows) (p .w) (p .h) _ (s .pre .0 .coefs .small (y + x * p .h) (by-column (p .w) (p .h) y x (omega (arith, s .pre .0 .some-rows)) g)))
+      (λ y x l g. entering-small (p .rows) (p .w) (p .h) _
+      (s .pre .0 .coefs .small (y + x * p .h) (by-column (p .w) (p .h) y x (omega (arith, s .pre .0 .some-rows)) g)))
 
 pub rows-of-identity-spec : {M : Type 1} → statement M
 rows-of-identity-spec =
-    tie.close
-    (tie.spec
-    Inv-loop
-    μ-loop
+    tie.close (tie.spec Inv-loop μ-loop
     (λ c. (record { rows = λ v x l g. (let f : ⊥ = omega arith in absurd f); rest = λ k l. c .pre .0 .empty k; long = c .pre .0 .long }, omega arith))
     (λ c κs.
-    let i = c .before in
-    let s = i .before .before in
-    record { sized = s .pre .0 .sized; coefs = s .pre .0 .coefs; y-in = omega (arith, i .loop-test .taken, s .pre .0 .some-rows); room = omega (arith, area (s .args .plan) (s .pre .0 .sized), i .before .loop .inv .0 .long) })
-    (λ c. omega arith)
-    (λ c. omega arith)
-    loop-again
-    (λ c. omega (arith, few c))
+    let i = c .before in let s = i .before .before in record {
+      sized = s .pre .0 .sized;
+      coefs = s .pre .0 .coefs;
+      y-in = omega (arith, i .loop-test .taken, s .pre .0 .some-rows);
+      room = omega (arith, area (s .args .plan) (s .pre .0 .sized), i .before .loop .inv .0 .long);
+    }) (λ c. omega arith) (λ c. omega arith) loop-again (λ c. omega (arith, few c))
     (λ c κs. record { inside = omega (arith, few c, holds c .long); small = small c })
-    (λ c. let a = c .before .before in ap length (c .before .scale .ensures) ∙ fill-length _ _ _ (s a .args .r * s a .args .plan .w) ∙ holds a .long ∙ sym (s a .pre .0 .long))
-    (λ c m. let a = c .before .before in scaled-rows (s a .args .plan) m (s a .args .coeff .now) (s a .args .r) _ (c .before .scale .last .0) (s a .pre .1) (few a) (holds a) (c .before .scale .ensures)))
+    (λ c. let a = c .before .before in ap length (c .before .scale .ensures)
+    ∙ fill-length _ _ _ (s a .args .r * s a .args .plan .w) ∙ holds a .long ∙ sym (s a .pre .0 .long))
+    (λ c m. let a = c .before .before in scaled-rows (s a .args .plan) m (s a .args .coeff .now) (s a .args .r) _
+    (c .before .scale .last .0) (s a .pre .1) (few a) (holds a) (c .before .scale .ensures)))

@@ -9,8 +9,8 @@ use lib.Dec.{lit≤}
 use lib.IntN.{ℤ, natAbs}
 use lib.ListN.{length}
 use Rattle.whole.specs.Lists.{at}
-use Rattle.itx_1d.specs.declared.Kind.the-variants.{Wht}
-use Rattle.av1.specs.Sides.{side}
+use Rattle.levels.specs.declared.Kind.the-variants.{Wht}
+use Rattle.levels.specs.Sides.{side}
 use Rattle.residual.specs.declared.Engine.the-variants.{First}
 use Rattle.residual.specs.Blocks.{passed-by}
 use Rattle.residual.specs.Inner.{wht-plan, loaded, row-made, HoldsIn}
@@ -36,9 +36,12 @@ loop-holds c = (record { rows = λ y x l g. (let f : ⊥ = omega arith in absurd
 
 load-row-requires : tie.Need-load-row-requires Inv-loop μ-loop
 load-row-requires c κs =
-    let i = c .before in
-    let s = i .before .before in
-    record { sized = s .pre .sized; coefs = s .pre .coefs; y-in = le-trans (i .loop-test .taken) (s .pre .some-rows); room = omega (arith, i .before .loop .inv .0 .long) }
+    let i = c .before in let s = i .before .before in record {
+      sized = s .pre .sized;
+      coefs = s .pre .coefs;
+      y-in = le-trans (i .loop-test .taken) (s .pre .some-rows);
+      room = omega (arith, i .before .loop .inv .0 .long);
+    }
 
 -- after row y was loaded
 module _ (l : tie.After-load-row Inv-loop μ-loop) where
@@ -66,38 +69,27 @@ module _ (l : tie.After-load-row Inv-loop μ-loop) where
 wht4-requires : tie.Need-wht4-requires Inv-loop μ-loop
 wht4-requires c κs =
     let l = c .before .before in
-    row-passable 4 (y l) (made (start l .args .coeff .now)) (e l) (turn l .before .loop .t) (l .load-row .last .0) refl (room l) (turn l .before .loop .inv .0) (l .load-row .ensures) 16777216 (small l)
+    row-passable 4 (y l) (made (start l .args .coeff .now)) (e l) (turn l .before .loop .t) (l .load-row .last .0) refl (room l)
+    (turn l .before .loop .inv .0) (l .load-row .ensures) 16777216 (small l)
 
 loop-again : tie.Need-loop-again Inv-loop μ-loop
 loop-again c =
-    let d = c .before in
-    let l = d .before .before .before in
-    let h = turn l .before .loop in
-    (row-more 4 (y l) (made (start l .args .coeff .now)) (e l) (h .t) (l .load-row .last .0) refl (room l) (h .inv .0) (l .load-row .ensures) (passed-by First Wht (side 4) 0) (d .wht4 .last .0) false (as-made (d .wht4 .ensures)) (λ x. refl), omega (arith, turn l .loop-test .taken))
+    let d = c .before in let l = d .before .before .before in let h = turn l .before .loop in (
+      row-more 4 (y l) (made (start l .args .coeff .now)) (e l) (h .t) (l .load-row .last .0) refl (room l) (h .inv .0)
+          (l .load-row .ensures) (passed-by First Wht (side 4) 0) (d .wht4 .last .0) false (as-made (d .wht4 .ensures))
+          (λ x. refl),
+      omega (arith, turn l .loop-test .taken),
+    )
 
 returns : tie.Need-returns Inv-loop μ-loop
 returns c =
-    let h = c .before .loop in
-    let s = c .before .before in
-    let all : h .y ≡ s .args .r = omega arith in
+    let h = c .before .loop in let s = c .before .before in let all : h .y ≡ s .args .r = omega arith in
     subst (λ (k : ℕ). HoldsIn 16 4 k (made (s .args .coeff .now)) (h .t)) all (h .inv .0)
 
 pub rows-of-wht-spec : {M : Type 1} → statement M
 rows-of-wht-spec =
-    tie.close
-    (tie.spec
-    Inv-loop
-    μ-loop
-    loop-holds
-    load-row-requires
-    (λ c. omega (arith, room (c .before)))
-    (λ c. omega (arith, room (c .before)))
-    (λ c. omega (arith, room (c .before), long (c .before)))
-    (λ c. omega (arith, room (c .before), long (c .before)))
-    (λ c. le-refl _)
-    wht4-requires
-    (λ c. omega arith)
-    (λ c. omega arith)
-    loop-again
-    (λ c. c .before .loop .inv .0 .long ∙ sym (c .before .before .pre .long))
+    tie.close (tie.spec Inv-loop μ-loop loop-holds load-row-requires (λ c. omega (arith, room (c .before)))
+    (λ c. omega (arith, room (c .before))) (λ c. omega (arith, room (c .before), long (c .before)))
+    (λ c. omega (arith, room (c .before), long (c .before))) (λ c. le-refl _) wht4-requires (λ c. omega arith)
+    (λ c. omega arith) loop-again (λ c. c .before .loop .inv .0 .long ∙ sym (c .before .before .pre .long))
     returns)

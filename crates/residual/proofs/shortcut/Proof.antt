@@ -10,7 +10,7 @@ use mir.ValLaws.{toZ-ofZ}
 use Rattle.whole.specs.Numbers.{_>>_, round2}
 use Rattle.whole.proofs.Machine.{E, var, lit, _⊕_, _⊛_, _≫_, ev, bound, need, reads, held-small}
 use Rattle.levels.specs.declared.Plan.{Plan}
-use Rattle.itx_1d.specs.declared.Kind.the-variants.{Dct}
+use Rattle.levels.specs.declared.Kind.the-variants.{Dct}
 use Rattle.residual.specs.Blocks.{prescale, shortcut}
 use Rattle.residual.proofs.Places.{w-small, h-small}
 use Rattle.residual.proofs.Small.{entering-small, rounded-small}
@@ -53,7 +53,10 @@ module _ (c : tie.After-enter) where
   d₁-small = le-trans (bound (c .enter .result ∷ []) (524288 ∷ []) (entered-small, tt) scaled) (lit≤ tt)
 
 rounded-requires : tie.Need-rounded-requires
-rounded-requires c κs = (le-trans (held-small (c .enter .result ∷ []) (524288 ∷ []) (entered-small c, tt) scaled w32 tt) (lit≤ tt), c .before .pre .0 .shift-small)
+rounded-requires c κs = (
+  le-trans (held-small (c .enter .result ∷ []) (524288 ∷ []) (entered-small c, tt) scaled w32 tt) (lit≤ tt),
+  c .before .pre .0 .shift-small,
+)
 
 -- after the rounding
 module _ (c : tie.After-rounded) where
@@ -61,7 +64,8 @@ module _ (c : tie.After-rounded) where
   e = c .before
 
   rounded : c .rounded .result ≡ round2 (d₁ e) (p e .shift)
-  rounded = c .rounded .ensures ∙ ap (λ (z : ℤ). round2 z (p e .shift)) (reads (e .enter .result ∷ []) (524288 ∷ []) (entered-small e, tt) scaled w32 tt)
+  rounded = c .rounded .ensures ∙ ap (λ (z : ℤ). round2 z (p e .shift))
+      (reads (e .enter .result ∷ []) (524288 ∷ []) (entered-small e, tt) scaled w32 tt)
 
   small : natAbs (c .rounded .result) ≤ 524288
   small = subst⁻¹ (λ (z : ℤ). natAbs z ≤ 524288) rounded (rounded-small (d₁ e) (p e .shift) (d₁-small e) (s e .pre .0 .shift-small))
@@ -80,12 +84,8 @@ returns c = (
 
 pub shortcut-spec : {M : Type 1} → statement M
 shortcut-spec =
-    tie.close
-    (tie.spec
-    enter-requires
-    (λ c. need (c .enter .result ∷ []) (524288 ∷ []) (entered-small c, tt) product w32 tt)
+    tie.close (tie.spec enter-requires (λ c. need (c .enter .result ∷ []) (524288 ∷ []) (entered-small c, tt) product w32 tt)
     (λ c. need (c .enter .result ∷ []) (524288 ∷ []) (entered-small c, tt) (product ⊕ lit (pos 128)) w32 tt)
-    rounded-requires
-    (λ c. need (c .rounded .result ∷ []) (524288 ∷ []) (small c, tt) product w32 tt)
+    rounded-requires (λ c. need (c .rounded .result ∷ []) (524288 ∷ []) (small c, tt) product w32 tt)
     (λ c. need (c .rounded .result ∷ []) (524288 ∷ []) (small c, tt) (product ⊕ lit (pos 2176)) w32 tt)
     returns)

@@ -29,34 +29,26 @@ loop-holds c = (refl, omega arith)
 loop-again : tie.Need-loop-again Inv-loop μ-loop
 unfolding fill
 loop-again c =
-    let h = c .before .before in
-    let s = h .before in
-    let v = toZ-ofZ w32 (at (s .args .u .now) (h .loop .x * 32 + s .args .y)) (record { sfits = c .v .given }) in
-    ((λ k. set (h .loop .inv .0 k) (s .args .from + h .loop .x) (v k)) ∙ ap (fill (s .args .t .now) (s .args .from) (λ k. at (s .args .u .now) (k * 32 + s .args .y))) (sym (add-one (h .loop .x))), omega arith)
+    let h = c .before .before in let s = h .before in
+    let v = toZ-ofZ w32 (at (s .args .u .now) (h .loop .x * 32 + s .args .y)) (record { sfits = c .v .given }) in (
+      (λ k. set (h .loop .inv .0 k) (s .args .from + h .loop .x) (v k))
+          ∙ ap (fill (s .args .t .now) (s .args .from) (λ k. at (s .args .u .now) (k * 32 + s .args .y)))
+          (sym (add-one (h .loop .x))),
+      omega arith,
+    )
 
 returns : tie.Need-returns Inv-loop μ-loop
 returns c =
-    let h = c .before in
-    let s = h .before in
-    let all : h .loop .x ≡ s .args .w = omega arith in
+    let h = c .before in let s = h .before in let all : h .loop .x ≡ s .args .w = omega arith in
     h .loop .inv .0 ∙ ap (fill (s .args .t .now) (s .args .from) (λ k. at (s .args .u .now) (k * 32 + s .args .y))) all
 
 pub store-row-spec : {M : Type 1} → statement M
 store-row-spec =
-    tie.close
-    (tie.spec
-    Inv-loop
-    μ-loop
-    loop-holds
-    (λ c. omega (arith, c .before .before .pre .narrow))
+    tie.close (tie.spec Inv-loop μ-loop loop-holds (λ c. omega (arith, c .before .before .pre .narrow))
     (λ c. omega (arith, c .before .before .pre .narrow, c .before .before .pre .y-in))
     (λ c. omega (arith, c .before .before .pre .narrow, c .before .before .pre .y-in))
     (λ c. omega (arith, c .before .before .pre .narrow, c .before .before .pre .y-in))
-    (λ c. omega (arith, c .before .before .before .pre .room))
-    (λ c. omega (arith, c .before .before .before .pre .room))
+    (λ c. omega (arith, c .before .before .before .pre .room)) (λ c. omega (arith, c .before .before .before .pre .room))
     (λ c. let s = c .before .before .before in omega (arith, as-long (c .before .before), s .pre .room, s .pre .long))
-    (λ c. omega (arith, c .before .before .before .pre .narrow))
-    (λ c. omega arith)
-    loop-again
-    (λ c. as-long (c .before))
-    returns)
+    (λ c. omega (arith, c .before .before .before .pre .narrow)) (λ c. omega arith) loop-again
+    (λ c. as-long (c .before)) returns)

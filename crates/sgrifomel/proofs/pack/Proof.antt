@@ -25,18 +25,8 @@ small c = subst (λ (p : Pass). answer-of p .place < 1024) (c .before .pass2 .gi
 
 pub pack-spec : {M : Type 1} → statement M
 pack-spec =
-    tie.close
-    (tie.spec
-    (λ c. search needs)
-    (λ c κs. search needs)
-    (λ c. search needs)
-    (λ c. search needs)
-    (λ c. search needs)
-    (λ c. search needs)
-    (λ c. omega (arith, small c))
-    (λ c. omega (arith, small c))
+    tie.close (tie.spec (λ c. search needs) (λ c κs. search needs) (λ c. search needs) (λ c. search needs) (λ c. search needs)
+    (λ c. search needs) (λ c. omega (arith, small c)) (λ c. omega (arith, small c))
     (λ c. c .bit .ensures .0 ∙ alone (c .before .before .pass .given .0 .0) ∙ ap word (sym (c .before .before .pass .given .1)))
-    (λ c. ap word (sym (c .enum-told .given .1)))
-    (λ c. ap word (sym (c .enum-told2 .given .1)))
-    (λ c. ap word (sym (c .enum-told3 .given .1)))
-    (λ c. ap word (sym (c .before .pass2 .given .1))))
+    (λ c. ap word (sym (c .enum-told .given .1))) (λ c. ap word (sym (c .enum-told2 .given .1)))
+    (λ c. ap word (sym (c .enum-told3 .given .1))) (λ c. ap word (sym (c .before .pass2 .given .1))))

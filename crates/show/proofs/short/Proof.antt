@@ -9,4 +9,7 @@ use Rattle.show.proofs.short.Statement.{statement}
 use Rattle.show.proofs.short.Tie as tie
 
 pub short-spec : {M : Type 1} → statement M
-short-spec = tie.close (tie.spec (λ c. subst⁻¹ (SFits w32) (toZ-ofZ w16 (c .args .v) (c .fits .v)) (record { sfits = omega (arith, c .fits .v .sfits) })) (λ c κs. search needs) (λ c. search needs))
+short-spec =
+    tie.close (tie.spec
+    (λ c. subst⁻¹ (SFits w32) (toZ-ofZ w16 (c .args .v) (c .fits .v)) (record { sfits = omega (arith, c .fits .v .sfits) }))
+    (λ c κs. search needs) (λ c. search needs))

@@ -52,33 +52,24 @@ held c = toZ-ofZ w32 _ (record { sfits = c .v .given }) ∙ same (c .before)
 
 loop-again : tie.Need-loop-again Inv-loop μ-loop
 loop-again c =
-    let e = c .before .before in
-    let n = s e .args .n in
-    let w = toZ-ofZ w32 (c .identity-of .result) (record { sfits = c .identity-of .ok }) ∙ c .identity-of .ensures ∙ ap (av1-identity (points n)) (held (c .before)) in
-    ((λ k. set (e .before .loop .inv .0 k) (i e) (w k)) ∙ begun-more (each (t e) n) (t e) (i e) (omega (arith, here e, s e .pre .1 .long)), omega (arith, near e))
+    let e = c .before .before in let n = s e .args .n in
+    let is = c .identity-of .ensures ∙ ap (av1-identity (points n)) (held (c .before)) in
+    let w = toZ-ofZ w32 (c .identity-of .result) (record { sfits = c .identity-of .ok }) ∙ is in
+    let more = begun-more (each (t e) n) (t e) (i e) (omega (arith, here e, s e .pre .1 .long)) in
+    ((λ k. set (e .before .loop .inv .0 k) (i e) (w k)) ∙ more, omega (arith, near e))
 
 returns : tie.Need-returns Inv-loop μ-loop
 returns c =
-    let h = c .before .loop in
-    let s = c .before .before in
-    let n = s .args .n in
+    let h = c .before .loop in let s = c .before .before in let n = s .args .n in
     let all : h .i ≡ 2 ^ n = omega (arith, shifted n (points-small n (s .pre .0)), c .loop-test .left, h .inv .1) in
     h .inv .0 ∙ ap (λ (k : ℕ). begun k (each (s .args .t .now) n) (s .args .t .now)) all
 
 pub identity-spec : {M : Type 1} → statement M
 identity-spec =
-    tie.close
-    (tie.spec
-    Inv-loop
-    μ-loop
-    (λ c. omega (arith, points-small (c .args .n) (c .pre .0)))
-    (λ c. (refl, omega arith))
-    (λ c. omega (arith, here c))
-    (λ c. here c)
+    tie.close (tie.spec
+    Inv-loop μ-loop (λ c. omega (arith, points-small (c .args .n) (c .pre .0))) (λ c. (refl, omega arith))
+    (λ c. omega (arith, here c)) (λ c. here c)
     (λ c κs. subst⁻¹ (λ (z : ℤ). natAbs z ≤ 524288) (held c) (s (c .before) .pre .1 .small (i (c .before))))
-    (λ c. omega (arith, here (c .before .before)))
-    (λ c. here (c .before .before))
-    (λ c. omega (arith, here (c .before .before)))
-    (λ c. omega (arith, c .before .before .loop-test .taken))
-    loop-again
+    (λ c. omega (arith, here (c .before .before))) (λ c. here (c .before .before))
+    (λ c. omega (arith, here (c .before .before))) (λ c. omega (arith, c .before .before .loop-test .taken)) loop-again
     returns)

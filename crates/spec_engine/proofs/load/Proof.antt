@@ -31,32 +31,19 @@ module _ (c : tie.In-loop Inv-loop μ-loop) where
 
 loop-again : tie.Need-loop-again Inv-loop μ-loop
 loop-again c =
-    let i = c .before in
-    let h = i .before .loop in
-    let f : ℕ → ℤ = λ j. at (s i .args .c .now) (j * s i .args .stride) in
+    let i = c .before in let h = i .before .loop in let f : ℕ → ℤ = λ j. at (s i .args .c .now) (j * s i .args .stride) in
     let w = toZ-ofZ w32 (f (h .i)) (record { sfits = c .v .given }) in
-    ((λ k. set (h .inv .0 k) (h .i) (w k)) ∙ begun-more f (s i .args .t .now) (h .i) (omega (arith, few i, i .loop-test .taken, ap length (s i .pre .1))), omega arith)
+    let more = begun-more f (s i .args .t .now) (h .i) (omega (arith, few i, i .loop-test .taken, ap length (s i .pre .1))) in
+    ((λ k. set (h .inv .0 k) (h .i) (w k)) ∙ more, omega arith)
 
 returns : tie.Need-returns Inv-loop μ-loop
 returns c =
-    let h = c .before .loop in
-    let s = c .before .before in
-    let all : h .i ≡ s .args .«length» = omega arith in
+    let h = c .before .loop in let s = c .before .before in let all : h .i ≡ s .args .«length» = omega arith in
     h .inv .0 ∙ ap (λ (k : ℕ). begun k (λ j. at (s .args .c .now) (j * s .args .stride)) (s .args .t .now)) all
 
 pub load-spec : {M : Type 1} → statement M
 load-spec =
-    tie.close
-    (tie.spec
-    Inv-loop
-    μ-loop
-    (λ c. (refl, omega arith))
-    (λ c. omega (arith, there c))
-    (λ c. omega (arith, there c))
-    (λ c. omega (arith, there c))
-    (λ c. omega (arith, few (c .before)))
-    (λ c. omega (arith, few (c .before)))
-    (λ c. omega arith)
-    (λ c. omega arith)
-    loop-again
-    returns)
+    tie.close (tie.spec
+    Inv-loop μ-loop (λ c. (refl, omega arith)) (λ c. omega (arith, there c)) (λ c. omega (arith, there c))
+    (λ c. omega (arith, there c)) (λ c. omega (arith, few (c .before))) (λ c. omega (arith, few (c .before)))
+    (λ c. omega arith) (λ c. omega arith) loop-again returns)

@@ -44,33 +44,21 @@ there c =
 
 loop-again : tie.Need-loop-again Inv-loop μ-loop
 loop-again c =
-    let e = c .before .before in
-    let z = s e .args in
-    let w = toZ-ofZ w32 (at (z .t .now) (c .before .brev .result)) (record { sfits = c .v .given }) ∙ ap (at (z .t .now)) (c .before .brev .ensures) in
-    ((λ k. set (e .before .loop .inv .0 k) (i e) (w k)) ∙ begun-more (from (z .t .now) (z .n)) (z .t .now) (i e) (omega (arith, here e, s e .pre .1)), omega (arith, near e))
+    let e = c .before .before in let z = s e .args in let is = ap (at (z .t .now)) (c .before .brev .ensures) in
+    let w = toZ-ofZ w32 (at (z .t .now) (c .before .brev .result)) (record { sfits = c .v .given }) ∙ is in
+    let more = begun-more (from (z .t .now) (z .n)) (z .t .now) (i e) (omega (arith, here e, s e .pre .1)) in
+    ((λ k. set (e .before .loop .inv .0 k) (i e) (w k)) ∙ more, omega (arith, near e))
 
 returns : tie.Need-returns Inv-loop μ-loop
 returns c =
-    let h = c .before .loop in
-    let s = c .before .before .before in
-    let n = s .args .n in
+    let h = c .before .loop in let s = c .before .before .before in let n = s .args .n in
     let all : h .i ≡ 2 ^ n = omega (arith, shifted n (s .pre .0), c .loop-test .left, h .inv .1) in
     h .inv .0 ∙ ap (λ (k : ℕ). begun k (from (s .args .t .now) n) (s .args .t .now)) all
 
 pub permute-spec : {M : Type 1} → statement M
 permute-spec =
-    tie.close
-    (tie.spec
-    Inv-loop
-    μ-loop
-    (λ c. omega (arith, c .before .pre .0))
-    (λ c. (refl, omega arith))
-    (λ c κs. s c .pre .0)
-    (λ c. omega (arith, there c))
-    (λ c. there c)
-    (λ c. omega (arith, here (c .before .before)))
-    (λ c. here (c .before .before))
-    (λ c. omega (arith, here (c .before .before)))
-    (λ c. omega (arith, c .before .before .loop-test .taken))
-    loop-again
-    returns)
+    tie.close (tie.spec
+    Inv-loop μ-loop (λ c. omega (arith, c .before .pre .0)) (λ c. (refl, omega arith)) (λ c κs. s c .pre .0)
+    (λ c. omega (arith, there c)) (λ c. there c) (λ c. omega (arith, here (c .before .before)))
+    (λ c. here (c .before .before)) (λ c. omega (arith, here (c .before .before)))
+    (λ c. omega (arith, c .before .before .loop-test .taken)) loop-again returns)

@@ -51,9 +51,7 @@ module _ (s : tie.Start) where
 returns : tie.Need-returns
 unfolding Rattle.av1.specs.Passes.av1-wht Rattle.whole.specs.Numbers._>>_
 returns q =
-    let s = q .before .before .before .before in
-    let t = s .args .t .now in
-    record {
+    let s = q .before .before .before .before in let t = s .args .t .now in record {
       same = λ i l.
           (λ k. at (set (set (set (set t 0 (is s (a ⊝ b) tt k)) 1 (is s b tt k)) 2 (is s c tt k)) 3 (is s (d ⊕ c) tt k)) i)
           ∙ four t _ _ _ _ (omega (arith, s .pre .long)) .same i l;
@@ -61,21 +59,9 @@ returns q =
 
 pub wht-spec : {M : Type 1} → statement M
 wht-spec =
-    tie.close
-    (tie.spec
-    (λ q. search needs)
-    (λ q. search needs)
-    (λ q. search needs)
-    (λ q. search needs)
-    (λ q. fits (q .before .before .before .before) a tt)
-    (λ q. fits (q .before .before .before .before) d tt)
-    (λ q. fits (q .before .before .before .before) (a ⊝ d) tt)
-    (λ q. fits (q .before .before .before .before) b tt)
-    (λ q. fits (q .before .before .before .before) c tt)
-    (λ q. fits (q .before .before .before .before) (a ⊝ b) tt)
-    (λ q. fits (q .before .before .before .before) (d ⊕ c) tt)
-    (λ q. search needs)
-    (λ q. search needs)
-    (λ q. search needs)
-    (λ q. search needs)
-    returns)
+    tie.close (tie.spec (λ q. search needs) (λ q. search needs) (λ q. search needs) (λ q. search needs)
+    (λ q. fits (q .before .before .before .before) a tt) (λ q. fits (q .before .before .before .before) d tt)
+    (λ q. fits (q .before .before .before .before) (a ⊝ d) tt) (λ q. fits (q .before .before .before .before) b tt)
+    (λ q. fits (q .before .before .before .before) c tt) (λ q. fits (q .before .before .before .before) (a ⊝ b) tt)
+    (λ q. fits (q .before .before .before .before) (d ⊕ c) tt) (λ q. search needs) (λ q. search needs)
+    (λ q. search needs) (λ q. search needs) returns)

@@ -14,14 +14,17 @@ use mir.Syntax.{w64}
 use mir.ValLaws.{toZ-ofZ}
 use Rattle.whole.specs.Checks.{accept}
 use Rattle.whole.proofs.Parts.{nn}
-use Rattle.levels.specs.Plans.{shift-check, shift-of}
+use Rattle.levels.specs.Plans.{shift-of}
+use Rattle.levels.specs.Inner.{shift-check}
 use Rattle.levels.proofs.Sizes.{side-bounds, shift-sided}
 use Rattle.strided.specs.declared.Spot.{Spot}
 use Rattle.strided.specs.declared.SpotCheck.{SpotCheck}
 use Rattle.strided.specs.declared.SpotCheck.the-variants.{Found, NotVisible, BadStride, RowOutside}
 use Rattle.strided.specs.declared.View.{View}
 use Rattle.strided.proofs.SpotCheck.{the-type}
-use Rattle.strided.specs.Planes.{starts, begins, spot, spotted, Spotted, spot-check, accepted, part-when, row-part}
+use Rattle.strided.specs.Planes.{starts, begins, spot, spotted, Spotted, part-when, row-part}
+use Rattle.whole.specs.Checks.{accepted}
+use Rattle.strided.specs.Inner.{spot-check}
 use Rattle.strided.proofs.Casts.{read, to-usize}
 use Rattle.strided.proofs.Rows.{rows-in, row-here, spotted-by}
 use Rattle.strided.proofs.lookup.Statement.{statement}
@@ -32,8 +35,8 @@ module _ (s : tie.Start) where
   abbrev v : View
   v = s .args .view
 
-  by-tests : {p q t : Bool} → accepted (shift-of (s .args .w) (s .args .h)) ≡ p → accepted (spotted (s .args .width) (s .args .size) (s .args .w) (s .args .h) v) ≡ q
-      → ltb (s .args .y) (v .rows) ≡ t
+  by-tests : {p q t : Bool} → accepted (shift-of (s .args .w) (s .args .h)) ≡ p
+      → accepted (spotted (s .args .width) (s .args .size) (s .args .w) (s .args .h) v) ≡ q → ltb (s .args .y) (v .rows) ≡ t
       → part-when (p && (q && t)) (s .args .width) v (s .args .y) ≡ row-part (s .args .width) (s .args .size) v (s .args .w) (s .args .h) (s .args .y)
   by-tests e f g = sym (λ i. part-when (e i && (f i && g i)) (s .args .width) v (s .args .y))
 
@@ -61,8 +64,7 @@ not-found RowOutside h = refl
 
 returns-2 : tie.Need-returns-2
 returns-2 c =
-    let o = c .before in
-    by-tests (begun (o .before)) (ap accepted (shift-is (o .before)))
+    let o = c .before in by-tests (begun (o .before)) (ap accepted (shift-is (o .before)))
     (ap accepted (sym (o .spot .ensures)) ∙ not-found (o .spot .result) (c .match2 .keys2)) refl
 
 -- after the view
@@ -89,9 +91,6 @@ module _ (c : tie.After-known-told) where
       → part-when t (s .args .width) (v s) (s .args .y) ≡ row-part (s .args .width) (s .args .size) (v s) (s .args .w) (s .args .h) (s .args .y)
   decided e = by-tests s (ap accepted (shift-is sized)) (ap accepted spotted-is) (ap (ltb (s .args .y)) rows-are ∙ e)
 
-returns-3 : tie.Need-returns-3
-returns-3 c = decided (c .before) (le-ltb _ _ (c .if1 .taken))
-
 -- row y, which is visible
 module _ (c : tie.Else1) where
   abbrev k : tie.After-known-told
@@ -108,14 +107,13 @@ module _ (c : tie.Else1) where
 
 cast-start : tie.Need-cast-start
 cast-start c =
-    let e = c .before in
-    let a = s (k e) .args in
+    let e = c .before in let a = s (k e) .args in
     record { fits = omega (arith, below e, rows-in (a .w) (a .h) (a .view) (view-is (k e) .0 .seen) .1, h-small (sized (k e))) }
 
-from-is : (c : tie.After-start) → let e = c .before .before in read w64 (c .start .result) ≡ starts (at e .offset) (at e .stride .0) (s (k e) .args .y)
+from-is : (c : tie.After-start) → let e = c .before .before in
+    read w64 (c .start .result) ≡ starts (at e .offset) (at e .stride .0) (s (k e) .args .y)
 from-is c =
-    let e = c .before .before in
-    toZ-ofZ w64 (c .start .result) (record { sfits = c .start .ok }) ∙ c .start .ensures
+    let e = c .before .before in toZ-ofZ w64 (c .start .result) (record { sfits = c .start .ok }) ∙ c .start .ensures
     ∙ ap (λ (a : Spot). starts (a .offset) (a .stride .0) (s (k e) .args .y)) (view-is (k e) .1)
 
 returns-4 : tie.Need-returns-4
@@ -125,17 +123,7 @@ returns-4 c =
 
 pub lookup-spec : {M : Type 1} → statement M
 lookup-spec =
-    tie.close
-    (tie.spec
-    (λ c κs. search needs)
-    (λ c. search needs)
-    (λ c. search needs)
-    returns
-    (λ c κs. search needs)
-    (λ c. search needs)
-    returns-2
-    returns-3
-    cast-start
-    (λ c κs. search needs)
+    tie.close (tie.spec (λ c κs. search needs) (λ c. search needs) (λ c. search needs) returns (λ c κs. search needs)
+    (λ c. search needs) returns-2 (λ c. decided (c .before) (le-ltb _ _ (c .if1 .taken))) cast-start (λ c κs. search needs)
     (λ c. let e = c .before .before in to-usize _ _ (from-is c) (here e .0) (omega (arith, here e .1, s (k e) .fits .size)))
     returns-4)

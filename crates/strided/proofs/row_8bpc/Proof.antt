@@ -16,11 +16,6 @@ inside c = let a = c .before .before .args in part-fits (lent-8 (a .dst .now) (a
 
 pub row-8bpc-spec : {M : Type 1} → statement M
 row-8bpc-spec =
-    tie.close
-    (tie.spec
-    (λ c κs. search needs)
-    (λ c. omega (arith, inside (c .before), c .before .before .before .good .0 .0))
-    (λ c. search needs)
-    (λ c. search needs)
-    (λ c. inside (c .before))
+    tie.close (tie.spec (λ c κs. search needs) (λ c. omega (arith, inside (c .before), c .before .before .before .good .0 .0))
+    (λ c. search needs) (λ c. search needs) (λ c. inside (c .before))
     (λ c. let l = c .before .before in is-part Narrow (l .before .before .args .dst) _ (l .lookup .ensures) refl (omega arith) refl))

@@ -16,12 +16,7 @@ inside c = let a = c .before .before .args in part-fits (lent (a .dst .now) (a .
 
 pub row-mut-spec : {M : Type 1} → statement M
 row-mut-spec =
-    tie.close
-    (tie.spec
-    (λ c κs. search needs)
-    (λ c. omega (arith, inside (c .before), c .before .before .before .good .0 .0))
+    tie.close (tie.spec (λ c κs. search needs) (λ c. omega (arith, inside (c .before), c .before .before .before .good .0 .0))
     (λ c. omega (arith, inside (c .before), c .before .before .before .good .0 .1))
-    (λ c. search needs)
-    (λ c. search needs)
-    (λ c. inside (c .before))
+    (λ c. search needs) (λ c. search needs) (λ c. inside (c .before))
     (λ c. let l = c .before .before in is-part Wide (l .before .before .args .dst) _ (l .lookup .ensures) refl (omega arith) refl))

@@ -14,24 +14,13 @@ abbrev μ-loop : tie.MeasureT-loop
 
 loop-again : tie.Need-loop-again Inv-loop μ-loop
 loop-again c =
-    let d = c .before .distance .ensures in
-    let l = c .before .before .before .before .before in
+    let d = c .before .distance .ensures in let l = c .before .before .before .before .before in
     one-more _ _ (l .before .before .before .pre) (l .loop .inv) _ (c .before .before .before .before .loop-test .taken) (d .0) (d .1)
     (c .greater .ensures)
 
 pub change-spec : {M : Type 1} → statement M
 change-spec =
-    tie.close
-    (tie.spec Inv-loop μ-loop
-    (λ c. begin _ _)
-    (λ c. search needs)
-    (λ c. search needs)
-    (λ c. search needs)
-    (λ c. search needs)
-    (λ c κs. search needs)
-    (λ c. search needs)
-    (λ c κs. search needs)
-    (λ c. search needs)
-    (λ c. search needs)
-    loop-again
+    tie.close (tie.spec Inv-loop μ-loop (λ c. begin _ _) (λ c. search needs) (λ c. search needs) (λ c. search needs)
+    (λ c. search needs) (λ c κs. search needs) (λ c. search needs) (λ c κs. search needs) (λ c. search needs)
+    (λ c. search needs) loop-again
     (λ c. finish _ _ (c .before .before .before .before .pre) (c .before .loop .inv) (c .loop-test .left)))

@@ -14,15 +14,7 @@ abbrev μ-loop : tie.MeasureT-loop
 
 pub keep-spec : {M : Type 1} → statement M
 keep-spec =
-    tie.close
-    (tie.spec Inv-loop μ-loop
-    (λ c. begin-keeping _ _)
-    (λ c. search needs)
-    (λ c. search needs)
-    (λ c. search needs)
-    (λ c. search needs)
-    (λ c. search needs)
-    (λ c. search needs)
+    tie.close (tie.spec Inv-loop μ-loop (λ c. begin-keeping _ _) (λ c. search needs) (λ c. search needs)
+    (λ c. search needs) (λ c. search needs) (λ c. search needs) (λ c. search needs)
     (λ c. let l = c .before .before in keep-next _ _ (l .loop .inv) (l .before .pre) (c .before .loop-test .taken))
-    (λ c. c .before .loop .inv .same-length)
-    (λ c. keep-all _ _ (c .before .loop .inv) (c .loop-test .left)))
+    (λ c. c .before .loop .inv .same-length) (λ c. keep-all _ _ (c .before .loop .inv) (c .loop-test .left)))

@@ -7,7 +7,7 @@ use lib.ListN.{length}
 use Rattle.blockfile.proofs.Writing.{leaves}
 use Rattle.text.specs.Text.{decimal}
 use Rattle.text.proofs.Texts.{decimal-short}
-use Rattle.tally.proofs.Tallies.{number-short, no-line, cell-line}
+use Rattle.tally.proofs.Tallies.{number-short, no-line, cell-line-is}
 use Rattle.tally.proofs.put_cell.Statement.{statement}
 use Rattle.tally.proofs.put_cell.Tie as tie
 
@@ -39,30 +39,22 @@ after-type c =
 
 count-requires : tie.Need-put-number-requires-4
 count-requires c κs =
-    let type = c .before .before .before in
-    let s = start (type .before .before .before .before) in
+    let type = c .before .before .before in let s = start (type .before .before .before .before) in
     omega (arith, after-type type, decimal-short 20 (s .args .n) (omega arith) (omega (arith, s .fits .n)))
 
 returns-2 : tie.Need-returns-2
 returns-2 c =
-    let count = c .before .before in
-    let type = count .before .before .before .before in
-    let height = type .before .before .before .before in
-    let width = height .before .before .before .before .before in
-    cell-line (start height .args .k) (width .before .before .before .if1 .left) (width .before .side-of .ensures .0)
+    let count = c .before .before in let type = count .before .before .before .before in
+    let height = type .before .before .before .before in let width = height .before .before .before .before .before in
+    cell-line-is (start height .args .k) (width .before .before .before .if1 .left) (width .before .side-of .ensures .0)
     (height .before .side-of2 .ensures .0) (width .put-number .ensures) (height .put-number2 .ensures) (type .put-number3 .ensures)
     (count .put-number4 .ensures)
 
 pub put-cell-spec : {M : Type 1} → statement M
 put-cell-spec =
-    tie.close
-    (tie.spec
-    (λ c. no-line _ (c .if1 .taken) (omega (arith, c .before .before .pre)))
-    (λ c κs. search needs)
+    tie.close (tie.spec (λ c. no-line _ (c .if1 .taken) (omega (arith, c .before .before .pre))) (λ c κs. search needs)
     (λ c κs. let side = c .side-of in omega (arith, two (side .result) (side .ensures .1), c .before .before .before .before .pre .1))
     (λ c κs. search needs)
     (λ c κs. let side = c .side-of2 in omega (arith, two (side .result) (side .ensures .1), after-width (c .before .before .before .before)))
     (λ c κs. let height = c .before .before .before in omega (arith, two (start height .args .k % 17) (omega arith), after-height height))
-    count-requires
-    (λ c. search needs)
-    returns-2)
+    count-requires (λ c. search needs) returns-2)

@@ -21,15 +21,6 @@ loop-again c =
 
 pub put-cells-spec : {M : Type 1} → statement M
 put-cells-spec =
-    tie.close
-    (tie.spec Inv-loop μ-loop
-    (λ c. begin-cells _ _ _ (c .before .before .pre .1))
-    (λ c. search needs)
-    (λ c. search needs)
-    (λ c. search needs)
-    (λ c κs. search needs)
-    (λ c. search needs)
-    (λ c. search needs)
-    loop-again
-    (λ c. put-length (c .before .loop .inv .lines))
-    (λ c. finish-cells _ _ _ (c .before .loop .inv) (c .loop-test .left)))
+    tie.close (tie.spec Inv-loop μ-loop (λ c. begin-cells _ _ _ (c .before .before .pre .1)) (λ c. search needs)
+    (λ c. search needs) (λ c. search needs) (λ c κs. search needs) (λ c. search needs) (λ c. search needs) loop-again
+    (λ c. put-length (c .before .loop .inv .lines)) (λ c. finish-cells _ _ _ (c .before .loop .inv) (c .loop-test .left)))

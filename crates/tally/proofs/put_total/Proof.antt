@@ -31,11 +31,9 @@ number-requires c κs =
 returns : tie.Need-returns
 unfolding line
 returns c =
-    let number = c .before .before in
-    let blank = number .before .before .before .before in
+    let number = c .before .before in let blank = number .before .before .before .before in
     let word = blank .before .before .before .before .before .put-bytes .ensures in
-    let put = put-then word (put-then (blank .put-bytes2 .ensures) (number .put-number .ensures)) in
-    let s = start blank in
+    let put = put-then word (put-then (blank .put-bytes2 .ensures) (number .put-number .ensures)) in let s = start blank in
     (put, omega (arith, put .place, total-short (s .args .word .now) (s .args .n) (small s)))
 
 pub put-total-spec : {M : Type 1} → statement M

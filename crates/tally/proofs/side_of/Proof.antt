@@ -13,9 +13,6 @@ last h p q o = omega arith
 
 pub side-of-spec : {M : Type 1} → statement M
 side-of-spec =
-    tie.close
-    (tie.spec
-    (λ c. side 0 (c .match .keys1) (omega arith))
-    (λ c. side 1 (c .match .keys2) (omega arith))
+    tie.close (tie.spec (λ c. side 0 (c .match .keys1) (omega arith)) (λ c. side 1 (c .match .keys2) (omega arith))
     (λ c. side 2 (c .match .keys3) (omega arith))
     (λ c. let n = c .match .rest in side 3 (last (c .before .pre) (n .0 .0 .1) (n .0 .1) (n .1)) (omega arith)))

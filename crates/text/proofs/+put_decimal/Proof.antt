@@ -5,7 +5,7 @@ use borrow.Author.Needs.{needs}
 use borrow.Fn.Kinds.{In}
 use borrow.Fn.PlainCycle.{Measures, is, falls, and}
 use lib.ListN.{set}
-use Rattle.blockfile.specs.Answer.{Put}
+use Rattle.blockfile.specs.Inner.{Put}
 use Rattle.blockfile.proofs.Writing.{put-length}
 use Rattle.text.specs.Text.{decimal}
 use Rattle.text.proofs.Texts.{decimal-length, put-few, put-more}
@@ -26,8 +26,7 @@ abbrev asked : ℕ → In 1 kinds.ps
 asked t = and 1 kinds.ps (falls 1 kinds.ps _<_ μ t) reads.Pre
 
 -- a number of one digit
-few : (t : ℕ) (c : lts.Then1 (asked t, reads.Post) (given t) reads.Post)
-    → let a = c .before .before .args in
+few : (t : ℕ) (c : lts.Then1 (asked t, reads.Post) (given t) reads.Post) → let a = c .before .before .args in
     Put (decimal (a .n)) (a .out .now) (a .at) (set (a .out .now) (a .at) (48 + a .n)) (a .at + 1)
 few t c = put-few _ _ (c .before .before .pre .1) (c .if1 .taken)
 
@@ -46,17 +45,7 @@ more t c =
 
 pub +put-decimal-spec : {M : Type 1} → statement M
 +put-decimal-spec = close μ λ t.
-    lts.spec (asked t, reads.Post) (given t) reads.Post
-    (λ c. search needs)
-    (λ c. search needs)
-    (λ c. omega (arith, few t c .room))
-    (λ c. omega (arith, few t c .room))
-    (λ c. search needs)
-    (few t)
-    (self-requires t)
-    (λ c. search needs)
-    (λ c. search needs)
-    (λ c. omega (arith, more t c .room, c .before .before .put-decimal .kept .0))
-    (λ c. omega (arith, more t c .room))
-    (λ c. put-length (more t c))
-    (more t)
+    lts.spec (asked t, reads.Post) (given t) reads.Post (λ c. search needs) (λ c. search needs)
+    (λ c. omega (arith, few t c .room)) (λ c. omega (arith, few t c .room)) (λ c. search needs) (few t) (self-requires t)
+    (λ c. search needs) (λ c. search needs) (λ c. omega (arith, more t c .room, c .before .before .put-decimal .kept .0))
+    (λ c. omega (arith, more t c .room)) (λ c. put-length (more t c)) (more t)

@@ -5,7 +5,7 @@ use native.Mathlib.Omega.{arith}
 use borrow.Author.Needs.{needs}
 use lib.ListN.{length, take}
 use lib.Seq.{take-all}
-use Rattle.blockfile.specs.Answer.{Put}
+use Rattle.blockfile.specs.Inner.{Put}
 use Rattle.blockfile.proofs.Writing.{put-length}
 use Rattle.text.proofs.Texts.{put-next}
 use Rattle.text.proofs.put_bytes.Statement.{statement}
@@ -24,15 +24,7 @@ loop-again c =
 
 pub put-bytes-spec : {M : Type 1} → statement M
 put-bytes-spec =
-    tie.close
-    (tie.spec Inv-loop μ-loop
-    (λ c. (record { elements = refl; place = refl; room = search needs }, omega arith))
-    (λ c. search needs)
-    (λ c. search needs)
-    (λ c. omega (arith, put-length (c .before .before .loop .inv .0)))
-    (λ c. search needs)
-    (λ c. search needs)
-    loop-again
-    (λ c. search needs)
-    (λ c. put-length (c .before .loop .inv .0))
+    tie.close (tie.spec Inv-loop μ-loop (λ c. (record { elements = refl; place = refl; room = search needs }, omega arith))
+    (λ c. search needs) (λ c. search needs) (λ c. omega (arith, put-length (c .before .before .loop .inv .0)))
+    (λ c. search needs) (λ c. search needs) loop-again (λ c. search needs) (λ c. put-length (c .before .loop .inv .0))
     (λ c. rw (take-all _ _ (c .loop-test .left)) at (c .before .loop .inv .0)))

@@ -4,7 +4,7 @@ use native.Mathlib.Omega.{arith}
 use borrow.Author.Needs.{needs}
 use lib.ListN.{length}
 use Rattle.blockfile.proofs.Writing.{put-then, leaves}
-use Rattle.text.specs.Text.{decimal, line, refusedLine}
+use Rattle.text.specs.Text.{decimal, line, refused-line}
 use Rattle.text.proofs.Texts.{decimal-short}
 use Rattle.text.proofs.refused_line.Statement.{statement}
 use Rattle.text.proofs.refused_line.Tie as tie
@@ -36,28 +36,18 @@ after-refusal c =
     leaves 3 1 (refusal-short (start blank)) (c .put-decimal2 .ensures) (after-blank blank)
 
 returns : tie.Need-returns
-unfolding refusedLine line
+unfolding refused-line line
 returns c =
-    let end = c .before .before in
-    let refusal = end .before .before .before .before .before in
-    let blank = refusal .before .before .before .before in
-    let number = blank .before .before .before .before .before in
-    let word = number .before .before .before .before in
-    put-then (word .put-bytes .ensures)
+    let end = c .before .before in let refusal = end .before .before .before .before .before in
+    let blank = refusal .before .before .before .before in let number = blank .before .before .before .before .before in
+    let word = number .before .before .before .before in put-then (word .put-bytes .ensures)
     (put-then (number .put-decimal .ensures)
     (put-then (blank .put-bytes2 .ensures) (put-then (refusal .put-decimal2 .ensures) (end .put-bytes3 .ensures))))
 
 pub refused-line-spec : {M : Type 1} → statement M
 refused-line-spec =
-    tie.close
-    (tie.spec
-    (λ c. search needs)
-    (λ c κs. search needs)
+    tie.close (tie.spec (λ c. search needs) (λ c κs. search needs)
     (λ c κs. let word = c .before .before .before in omega (arith, after-word word, number-short (word .before .before .before .before)))
-    (λ c. search needs)
-    (λ c κs. omega (arith, after-number (c .before .before .before .before)))
+    (λ c. search needs) (λ c κs. omega (arith, after-number (c .before .before .before .before)))
     (λ c κs. let blank = c .before .before .before in omega (arith, after-blank blank, refusal-short (start blank)))
-    (λ c. search needs)
-    (λ c κs. after-refusal (c .before .before .before .before))
-    (λ c. search needs)
-    returns)
+    (λ c. search needs) (λ c κs. after-refusal (c .before .before .before .before)) (λ c. search needs) returns)

@@ -5,7 +5,7 @@ use native.Mathlib.Omega.{arith}
 use lib.IntN.{ℤ, natAbs}
 use mir.Syntax.{w32}
 use mir.Val.{ofZ}
-use Rattle.words.proofs.Signs.{Negative, negative, Natural, natural}
+use Rattle.whole.proofs.Signs.{Negative, negative, Natural, natural}
 use Rattle.words.proofs.bits.Statement.{statement}
 use Rattle.words.proofs.bits.Tie as tie
 
@@ -17,20 +17,12 @@ above c = natural (c .before .args .v) (c .before .fits .v) (c .if1 .left)
 
 returns : tie.Need-returns
 returns c =
-    let b = below c in
-    let complement : 4294967295 - b .less ≡ 4294967296 - suc (b .less) = omega arith in
+    let b = below c in let complement : 4294967295 - b .less ≡ 4294967296 - suc (b .less) = omega arith in
     ap (λ (z : ℤ). 4294967295 - natAbs z) (b .turned) ∙ complement ∙ sym (ap (ofZ w32) (b .is))
-
-returns-2 : tie.Need-returns-2
-returns-2 c = ap natAbs (above c .same) ∙ sym (ap (ofZ w32) (above c .is))
 
 pub bits-spec : {M : Type 1} → statement M
 bits-spec =
-    tie.close
-    (tie.spec
-    (λ c. below c .fits)
-    (λ c. rw (below c .turned) (tt, record { fits = omega (arith, below c .small) }))
+    tie.close (tie.spec (λ c. below c .fits) (λ c. rw (below c .turned) (tt, record { fits = omega (arith, below c .small) }))
     (λ c. rw (below c .turned) (omega (arith, below c .small)))
     (λ c. rw (above c .same) (tt, record { fits = omega (arith, above c .small) }))
-    returns
-    returns-2)
+    returns (λ c. ap natAbs (above c .same) ∙ sym (ap (ofZ w32) (above c .is))))

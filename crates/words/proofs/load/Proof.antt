@@ -7,26 +7,8 @@ use borrow.Author.Needs.{needs}
 use Rattle.words.proofs.load.Statement.{statement}
 use Rattle.words.proofs.load.Tie as tie
 
-abbrev Inv-loop : tie.InvT-loop
-Inv-loop b c₀ i₀ i-end c i = (i-end ≡ length c₀) × (length c ≡ length c₀)
-
-abbrev μ-loop : tie.MeasureT-loop
-μ-loop b c₀ i₀ i-end c i = i-end - i
-
 pub load-spec : {M : Type 1} → statement M
 load-spec =
-    tie.close
-    (tie.spec
-    Inv-loop
-    μ-loop
-    (λ c. search needs)
-    (λ c. search needs)
-    (λ c κs. search needs)
-    (λ c κs. search needs)
-    (λ c. search needs)
-    (λ c. search needs)
-    (λ c. search needs)
-    (λ c. search needs)
-    (λ c. simp length-set (omega arith))
-    (λ c. search needs)
-    (λ c. search needs))
+    tie.close (tie.spec (λ b c₀ i₀ i-end c i. (i-end ≡ length c₀) × (length c ≡ length c₀)) (λ b c₀ i₀ i-end c i. i-end - i)
+    (λ c. search needs) (λ c. search needs) (λ c κs. search needs) (λ c κs. search needs) (λ c. search needs) (λ c. search needs)
+    (λ c. search needs) (λ c. search needs) (λ c. simp length-set (omega arith)) (λ c. search needs) (λ c. search needs))

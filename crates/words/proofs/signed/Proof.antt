@@ -9,7 +9,7 @@ use lib.IntN.{ℤ, pos, negsuc, _-ℤ_}
 use mir.Syntax.{w32}
 use mir.Val.{SFits, toZ, ofZ, sel}
 use mir.ValLaws.{toZ-pos, toZ-ofZ}
-use Rattle.words.proofs.Signs.{turned-pos}
+use Rattle.whole.proofs.Signs.{turned-pos}
 use Rattle.words.proofs.signed.Statement.{statement}
 use Rattle.words.proofs.signed.Tie as tie
 
@@ -27,16 +27,11 @@ read w h =
 
 returns : tie.Need-returns-2
 returns c =
-    let w = c .before .args .w in
-    ap (λ (z : ℤ). toZ w32 (ofZ w32 z)) (turned w (c .if1 .left)) ∙ toZ-ofZ w32 (negsuc (4294967295 - w)) (fits w (c .if1 .left)) ∙ read w (c .if1 .left)
+    let w = c .before .args .w in let h = c .if1 .left in
+    ap (λ (z : ℤ). toZ w32 (ofZ w32 z)) (turned w h) ∙ toZ-ofZ w32 (negsuc (4294967295 - w)) (fits w h) ∙ read w h
 
 pub signed-spec : {M : Type 1} → statement M
 signed-spec =
-    tie.close
-    (tie.spec
-    (λ c. search needs)
-    (λ c. search needs)
-    (λ c. search needs)
-    (λ c. rw (turned (c .before .args .w) (c .if1 .left)) (fits (c .before .args .w) (c .if1 .left)))
-    (λ c. search needs)
+    tie.close (tie.spec (λ c. search needs) (λ c. search needs) (λ c. search needs)
+    (λ c. rw (turned (c .before .args .w) (c .if1 .left)) (fits (c .before .args .w) (c .if1 .left))) (λ c. search needs)
     returns)

@@ -7,22 +7,13 @@ use mir.Syntax.{w32}
 use mir.Val.{toZ, ofZ}
 use mir.ValLaws.{toZ-pos, toZ-ofZ}
 use Rattle.blockfile.proofs.Zigzags.{zag-even, zag-odd}
-use Rattle.blockfile.proofs.Signs.{turned-pos}
+use Rattle.whole.proofs.Signs.{turned-pos}
 use Rattle.blockfile.proofs.number.coefficient_of.Statement.{statement}
 use Rattle.blockfile.proofs.number.coefficient_of.Tie as tie
 
 -- what the code has after both steps
 turned : (n : ℕ) → n < 4294967296 → negsuc 0 -ℤ toZ w32 (n / 2) ≡ negsuc (n / 2)
 turned n h = ap (λ (z : ℤ). negsuc 0 -ℤ z) (toZ-pos w32 (n / 2) (omega arith)) ∙ turned-pos (n / 2)
-
-cast-half : tie.Need-cast-half
-cast-half c = record { sfits = omega arith }
-
-returns : tie.Need-returns
-returns c = toZ-pos w32 (c .before .args .n / 2) (omega arith) ∙ sym (zag-even (c .before .args .n) (c .if1 .taken))
-
-sub-result : tie.Need-sub-result
-sub-result c = rw (turned (c .before .args .n) (c .before .fits .n .fits)) (record { sfits = omega arith })
 
 returns-2 : tie.Need-returns-2
 returns-2 c =
@@ -31,4 +22,6 @@ returns-2 c =
     ∙ sym (zag-odd n (c .if1 .left))
 
 pub coefficient-of-spec : {M : Type 1} → statement M
-coefficient-of-spec = tie.close (tie.spec cast-half returns sub-result returns-2)
+coefficient-of-spec = tie.close (tie.spec (λ c. record { sfits = omega arith })
+    (λ c. toZ-pos w32 (c .before .args .n / 2) (omega arith) ∙ sym (zag-even (c .before .args .n) (c .if1 .taken)))
+    (λ c. rw (turned (c .before .args .n) (c .before .fits .n .fits)) (record { sfits = omega arith })) returns-2)

@@ -4,7 +4,7 @@ use Prim.Native.Nat.{_+_, _*_}
 use native.Mathlib.Omega.{arith}
 use lib.IntN.{ℤ, natAbs}
 use Rattle.blockfile.specs.Zigzag.{zig}
-use Rattle.blockfile.proofs.Signs.{Negative, negative, Natural, natural}
+use Rattle.whole.proofs.Signs.{Negative, negative, Natural, natural}
 use Rattle.blockfile.proofs.number.number_of.Statement.{statement}
 use Rattle.blockfile.proofs.number.number_of.Tie as tie
 
@@ -14,27 +14,9 @@ below c = negative (c .before .args .v) (c .before .fits .v) (c .if1 .taken)
 above : (c : tie.Else1) → Natural (c .before .args .v)
 above c = natural (c .before .args .v) (c .before .fits .v) (c .if1 .left)
 
-sub-n : tie.Need-sub-n
-sub-n c = below c .fits
-
-cast-result : tie.Need-cast-result
-cast-result c = rw (below c .turned) (tt, record { fits = omega (arith, below c .small) })
-
-mul-result : tie.Need-mul-result
-mul-result c = rw (below c .turned) (record { fits = omega (arith, below c .small) })
-
-add-result : tie.Need-add-result
-add-result c = rw (below c .turned) (record { fits = omega (arith, below c .small) })
-
 returns : tie.Need-returns
 unfolding zig
 returns c = ap (λ (z : ℤ). 2 * natAbs z + 1) (below c .turned) ∙ sym (ap zig (below c .is))
-
-cast-result-2 : tie.Need-cast-result-2
-cast-result-2 c = rw (above c .same) (tt, record { fits = omega (arith, above c .small) })
-
-mul-result-2 : tie.Need-mul-result-2
-mul-result-2 c = rw (above c .same) (record { fits = omega (arith, above c .small) })
 
 returns-2 : tie.Need-returns-2
 unfolding zig
@@ -42,5 +24,9 @@ returns-2 c = ap (λ (z : ℤ). 2 * natAbs z) (above c .same) ∙ sym (ap zig (a
 
 pub number-of-spec : {M : Type 1} → statement M
 number-of-spec =
-    tie.close
-    (tie.spec sub-n cast-result mul-result add-result returns cast-result-2 mul-result-2 returns-2)
+    tie.close (tie.spec (λ c. below c .fits) (λ c. rw (below c .turned) (tt, record { fits = omega (arith, below c .small) }))
+    (λ c. rw (below c .turned) (record { fits = omega (arith, below c .small) }))
+    (λ c. rw (below c .turned) (record { fits = omega (arith, below c .small) }))
+    returns (λ c. rw (above c .same) (tt, record { fits = omega (arith, above c .small) }))
+    (λ c. rw (above c .same) (record { fits = omega (arith, above c .small) }))
+    returns-2)

@@ -22,24 +22,6 @@ top c = c .before .before
 abbrev group : tie.After-shared-slice-known2 Inv-loop μ-loop → ℕ
 group c = getD (top c .before .before .args .s .now) (top c .loop .i) 0
 
-loop-holds : tie.Need-loop-holds Inv-loop μ-loop
-loop-holds c = start (c .before .args .s .now) (c .before .args .at)
-
-returns : tie.Need-returns Inv-loop μ-loop
-returns c = ended (c .before .loop .inv) (c .if1 .taken)
-
-shared-slice-read-b : tie.Need-shared-slice-read-b Inv-loop μ-loop
-shared-slice-read-b c = omega arith
-
-cast-b : tie.Need-cast-b Inv-loop μ-loop
-cast-b c = omega (arith, c .shared-slice-known2 .given (c .before .before .loop .i))
-
-add-i : tie.Need-add-i Inv-loop μ-loop
-add-i c = omega arith
-
-last-group-requires : tie.Need-last-group-requires Inv-loop μ-loop
-last-group-requires c κs = fits-highest (top (c .before .before) .loop .inv) _ (c .before .if2 .taken) (c .if3 .taken)
-
 returns-2 : tie.Need-returns-2 Inv-loop μ-loop
 returns-2 c =
     let b = c .before .before .before in
@@ -47,11 +29,7 @@ returns-2 c =
 
 returns-3 : tie.Need-returns-3 Inv-loop μ-loop
 returns-3 c =
-    let b = c .before .before in
-    highest-large (top b .loop .inv) (b .before .if1 .left) (c .before .if2 .taken) (c .if3 .left)
-
-last-group-requires-2 : tie.Need-last-group-requires-2 Inv-loop μ-loop
-last-group-requires-2 c κs = fits-later (top (c .before .before) .loop .inv) _ (c .before .if2 .left) (c .if4 .taken)
+    let b = c .before .before in highest-large (top b .loop .inv) (b .before .if1 .left) (c .before .if2 .taken) (c .if3 .left)
 
 returns-4 : tie.Need-returns-4 Inv-loop μ-loop
 returns-4 c =
@@ -64,21 +42,6 @@ shares c =
     let b = c .before .before in
     record { fits = fits-later (top b .loop .inv) _ (c .before .if2 .left) (omega (arith, b .shared-slice-known2 .given (top b .loop .i))) }
 
-mul-value : tie.Need-mul-value Inv-loop μ-loop
-mul-value c = omega (arith, shares c)
-
-add-value : tie.Need-add-value Inv-loop μ-loop
-add-value c = shares c
-
-mul-scale : tie.Need-mul-scale Inv-loop μ-loop
-mul-scale c = omega (arith, scale-most (top (c .before .before) .loop .inv) (c .before .if2 .left))
-
-sub-left : tie.Need-sub-left Inv-loop μ-loop
-sub-left c = omega arith
-
-loop-less : tie.Need-loop-less Inv-loop μ-loop
-loop-less c = omega arith
-
 loop-again : tie.Need-loop-again Inv-loop μ-loop
 loop-again c =
     let b = c .before .before in
@@ -86,5 +49,11 @@ loop-again c =
 
 pub read-number-spec : {M : Type 1} → statement M
 read-number-spec =
-    tie.close
-    (tie.spec Inv-loop μ-loop loop-holds returns shared-slice-read-b cast-b add-i last-group-requires returns-2 returns-3 last-group-requires-2 returns-4 mul-value add-value mul-scale sub-left loop-less loop-again)
+    tie.close (tie.spec Inv-loop μ-loop (λ c. start (c .before .args .s .now) (c .before .args .at))
+    (λ c. ended (c .before .loop .inv) (c .if1 .taken)) (λ c. omega arith)
+    (λ c. omega (arith, c .shared-slice-known2 .given (c .before .before .loop .i))) (λ c. omega arith)
+    (λ c κs. fits-highest (top (c .before .before) .loop .inv) _ (c .before .if2 .taken) (c .if3 .taken))
+    returns-2 returns-3 (λ c κs. fits-later (top (c .before .before) .loop .inv) _ (c .before .if2 .left) (c .if4 .taken))
+    returns-4 (λ c. omega (arith, shares c)) (λ c. shares c)
+    (λ c. omega (arith, scale-most (top (c .before .before) .loop .inv) (c .before .if2 .left)))
+    (λ c. omega arith) (λ c. omega arith) loop-again)

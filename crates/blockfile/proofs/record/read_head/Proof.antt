@@ -4,7 +4,7 @@ use mathlib.Core.Path.{_≡_, sym, ap, _∙_}
 use mathlib.Core.Bool.{true}
 use borrow.Author.Tests.{not-true, not-false}
 use Rattle.blockfile.specs.Record.{sized}
-use Rattle.blockfile.specs.Answer.{numberRefusal}
+use Rattle.blockfile.specs.Inner.{number-refusal}
 use Rattle.blockfile.proofs.Fill.{Took, took, Missed, missed}
 use Rattle.blockfile.specs.declared.record.HeadRead.the-variants.{Refused}
 use Rattle.blockfile.proofs.Heads.{no-w, no-h, no-size, no-txtp, no-depth, no-announced, no-announcing, whole}
@@ -35,191 +35,95 @@ sized-at c = c .before .before
 t1 : (c : tie.After-known-told) → Took (s1 c .args .s .now) (s1 c .args .at) (c .before .first .given .0 .0) (c .before .first .given .0 .1 .0)
 t1 c = took _ _ _ _ (sym (c .before .first .given .1) ∙ c .before .before .before .read-number .ensures)
 
-m1 : (c : tie.After-refusal) → Missed (c .before .before .before .before .before .args .s .now) (c .before .before .before .before .before .args .at) (c .before .enum-told .given .0 .0)
+m1 : (c : tie.After-refusal) → Missed (c .before .before .before .before .before .args .s .now)
+    (c .before .before .before .before .before .args .at) (c .before .enum-told .given .0 .0)
 m1 c = missed _ _ _ (sym (c .before .enum-told .given .1) ∙ c .before .before .before .read-number .ensures)
 
-t2 : (c : tie.After-known-told2) → Took (s1 (s2 c) .args .s .now) (s2 c .before .first .given .0 .1 .0) (c .before .second .given .0 .0) (c .before .second .given .0 .1 .0)
+t2 : (c : tie.After-known-told2) → Took (s1 (s2 c) .args .s .now) (s2 c .before .first .given .0 .1 .0)
+    (c .before .second .given .0 .0) (c .before .second .given .0 .1 .0)
 t2 c = took _ _ _ _ (sym (c .before .second .given .1) ∙ c .before .before .before .read-number2 .ensures)
 
-m2 : (c : tie.After-refusal2)
-    → Missed (s1 (c .before .before .before .before) .args .s .now) (c .before .before .before .before .before .first .given .0 .1 .0) (c .before .enum-told2 .given .0 .0)
+m2 : (c : tie.After-refusal2) → Missed (s1 (c .before .before .before .before) .args .s .now)
+    (c .before .before .before .before .before .first .given .0 .1 .0) (c .before .enum-told2 .given .0 .0)
 m2 c = missed _ _ _ (sym (c .before .enum-told2 .given .1) ∙ c .before .before .before .read-number2 .ensures)
 
 right-size : (c : tie.Else1) → sized (s2 (sized-at c) .before .first .given .0 .0, sized-at c .before .second .given .0 .0) ≡ true
 right-size c = sym (c .before .is-sized .ensures) ∙ not-false (c .before .is-sized .result) (c .if1 .left)
 
 t3 : (c : tie.After-known-told3)
-    → Took (s1 (s2 (sized-at (s3 c))) .args .s .now) (sized-at (s3 c) .before .second .given .0 .1 .0) (c .before .third .given .0 .0) (c .before .third .given .0 .1 .0)
+    → Took (s1 (s2 (sized-at (s3 c))) .args .s .now) (sized-at (s3 c) .before .second .given .0 .1 .0)
+    (c .before .third .given .0 .0) (c .before .third .given .0 .1 .0)
 t3 c = took _ _ _ _ (sym (c .before .third .given .1) ∙ c .before .before .before .read-number3 .ensures)
 
-m3 : (c : tie.After-refusal3)
-    → let e = sized-at (c .before .before .before .before) in Missed (s1 (s2 e) .args .s .now) (e .before .second .given .0 .1 .0) (c .before .enum-told3 .given .0 .0)
+m3 : (c : tie.After-refusal3) → let e = sized-at (c .before .before .before .before) in
+    Missed (s1 (s2 e) .args .s .now) (e .before .second .given .0 .1 .0) (c .before .enum-told3 .given .0 .0)
 m3 c = missed _ _ _ (sym (c .before .enum-told3 .given .1) ∙ c .before .before .before .read-number3 .ensures)
 
 t4 : (c : tie.After-known-told4)
-    → Took (s1 (s2 (sized-at (s3 (s4 c)))) .args .s .now) (s4 c .before .third .given .0 .1 .0) (c .before .fourth .given .0 .0) (c .before .fourth .given .0 .1 .0)
+    → Took (s1 (s2 (sized-at (s3 (s4 c)))) .args .s .now) (s4 c .before .third .given .0 .1 .0) (c .before .fourth .given .0 .0)
+    (c .before .fourth .given .0 .1 .0)
 t4 c = took _ _ _ _ (sym (c .before .fourth .given .1) ∙ c .before .before .before .read-number4 .ensures)
 
-m4 : (c : tie.After-refusal4)
-    → let e = c .before .before .before .before in Missed (s1 (s2 (sized-at (s3 e))) .args .s .now) (e .before .third .given .0 .1 .0) (c .before .enum-told4 .given .0 .0)
+m4 : (c : tie.After-refusal4) → let e = c .before .before .before .before in
+    Missed (s1 (s2 (sized-at (s3 e))) .args .s .now) (e .before .third .given .0 .1 .0) (c .before .enum-told4 .given .0 .0)
 m4 c = missed _ _ _ (sym (c .before .enum-told4 .given .1) ∙ c .before .before .before .read-number4 .ensures)
 
 t5 : (c : tie.After-known-told5)
-    → Took (s1 (s2 (sized-at (s3 (s4 (s5 c))))) .args .s .now) (s5 c .before .fourth .given .0 .1 .0) (c .before .fifth .given .0 .0) (c .before .fifth .given .0 .1 .0)
+    → Took (s1 (s2 (sized-at (s3 (s4 (s5 c))))) .args .s .now) (s5 c .before .fourth .given .0 .1 .0)
+    (c .before .fifth .given .0 .0) (c .before .fifth .given .0 .1 .0)
 t5 c = took _ _ _ _ (sym (c .before .fifth .given .1) ∙ c .before .before .before .read-number5 .ensures)
 
-m5 : (c : tie.After-refusal5)
-    → let e = c .before .before .before .before in Missed (s1 (s2 (sized-at (s3 (s4 e)))) .args .s .now) (e .before .fourth .given .0 .1 .0) (c .before .enum-told5 .given .0 .0)
+m5 : (c : tie.After-refusal5) → let e = c .before .before .before .before in
+    Missed (s1 (s2 (sized-at (s3 (s4 e)))) .args .s .now) (e .before .fourth .given .0 .1 .0) (c .before .enum-told5 .given .0 .0)
 m5 c = missed _ _ _ (sym (c .before .enum-told5 .given .1) ∙ c .before .before .before .read-number5 .ensures)
-
-read-number-requires : tie.Need-read-number-requires
-read-number-requires c κs = search needs
-
-enum-known-first : tie.Need-enum-known-first
-enum-known-first c = search needs
-
-enum-told : tie.Need-enum-told
-enum-told c = search needs
-
-refusal-requires : tie.Need-refusal-requires
-refusal-requires c κs = search needs
-
-returns : tie.Need-returns
-returns c = ap Refused (c .refusal .ensures ∙ ap numberRefusal (c .before .enum-told .given .1)) ∙ no-w _ (m1 c)
-
-read-number-requires-2 : tie.Need-read-number-requires-2
-read-number-requires-2 c κs = search needs
-
-enum-known-second : tie.Need-enum-known-second
-enum-known-second c = search needs
-
-enum-told-2 : tie.Need-enum-told-2
-enum-told-2 c = search needs
-
-refusal-requires-2 : tie.Need-refusal-requires-2
-refusal-requires-2 c κs = search needs
 
 returns-2 : tie.Need-returns-2
 returns-2 c =
     let e = c .before .before .before .before in
-    ap Refused (c .refusal2 .ensures ∙ ap numberRefusal (c .before .enum-told2 .given .1)) ∙ no-h _ (t1 e) (m2 c)
-
-is-sized-requires : tie.Need-is-sized-requires
-is-sized-requires c κs = search needs
+    ap Refused (c .refusal2 .ensures ∙ ap number-refusal (c .before .enum-told2 .given .1)) ∙ no-h _ (t1 e) (m2 c)
 
 returns-3 : tie.Need-returns-3
 returns-3 c =
     let e = c .before .before in
     no-size _ (t1 (s2 e)) (t2 e) (sym (c .before .is-sized .ensures) ∙ not-true (c .before .is-sized .result) (c .if1 .taken))
 
-read-number-requires-3 : tie.Need-read-number-requires-3
-read-number-requires-3 c κs = search needs
-
-enum-known-third : tie.Need-enum-known-third
-enum-known-third c = search needs
-
-enum-told-3 : tie.Need-enum-told-3
-enum-told-3 c = search needs
-
-refusal-requires-3 : tie.Need-refusal-requires-3
-refusal-requires-3 c κs = search needs
-
 returns-4 : tie.Need-returns-4
 returns-4 c =
     let e = c .before .before .before .before in
-    ap Refused (c .refusal3 .ensures ∙ ap numberRefusal (c .before .enum-told3 .given .1)) ∙ no-txtp _ (t1 (s2 (sized-at e))) (t2 (sized-at e)) (right-size e) (m3 c)
-
-read-number-requires-4 : tie.Need-read-number-requires-4
-read-number-requires-4 c κs = search needs
-
-enum-known-fourth : tie.Need-enum-known-fourth
-enum-known-fourth c = search needs
-
-enum-told-4 : tie.Need-enum-told-4
-enum-told-4 c = search needs
-
-refusal-requires-4 : tie.Need-refusal-requires-4
-refusal-requires-4 c κs = search needs
+    ap Refused (c .refusal3 .ensures ∙ ap number-refusal (c .before .enum-told3 .given .1))
+    ∙ no-txtp _ (t1 (s2 (sized-at e))) (t2 (sized-at e)) (right-size e) (m3 c)
 
 returns-5 : tie.Need-returns-5
 returns-5 c =
     let e = c .before .before .before .before in
-    ap Refused (c .refusal4 .ensures ∙ ap numberRefusal (c .before .enum-told4 .given .1)) ∙ no-depth _ (t1 (s2 (sized-at (s3 e)))) (t2 (sized-at (s3 e))) (right-size (s3 e)) (t3 e) (m4 c)
-
-read-number-requires-5 : tie.Need-read-number-requires-5
-read-number-requires-5 c κs = search needs
-
-enum-known-fifth : tie.Need-enum-known-fifth
-enum-known-fifth c = search needs
-
-enum-told-5 : tie.Need-enum-told-5
-enum-told-5 c = search needs
-
-refusal-requires-5 : tie.Need-refusal-requires-5
-refusal-requires-5 c κs = search needs
+    ap Refused (c .refusal4 .ensures ∙ ap number-refusal (c .before .enum-told4 .given .1))
+    ∙ no-depth _ (t1 (s2 (sized-at (s3 e)))) (t2 (sized-at (s3 e))) (right-size (s3 e)) (t3 e) (m4 c)
 
 returns-6 : tie.Need-returns-6
 returns-6 c =
     let e = c .before .before .before .before in
-    ap Refused (c .refusal5 .ensures ∙ ap numberRefusal (c .before .enum-told5 .given .1)) ∙ no-announced _ (t1 (s2 (sized-at (s3 (s4 e))))) (t2 (sized-at (s3 (s4 e)))) (right-size (s3 (s4 e))) (t3 (s4 e)) (t4 e) (m5 c)
-
-can-announce-requires : tie.Need-can-announce-requires
-can-announce-requires c κs = search needs
-
-announce-refusal-requires : tie.Need-announce-refusal-requires
-announce-refusal-requires c κs = search needs
+    ap Refused (c .refusal5 .ensures ∙ ap number-refusal (c .before .enum-told5 .given .1))
+    ∙ no-announced _ (t1 (s2 (sized-at (s3 (s4 e))))) (t2 (sized-at (s3 (s4 e)))) (right-size (s3 (s4 e))) (t3 (s4 e)) (t4 e) (m5 c)
 
 returns-7 : tie.Need-returns-7
 returns-7 c =
-    let e5 = c .before .before .before in
-    let e4 = s5 e5 in
-    let e3 = s4 e4 in
-    let e2 = s3 e3 in
+    let e5 = c .before .before .before in let e4 = s5 e5 in let e3 = s4 e4 in let e2 = s3 e3 in
     ap Refused (c .announce-refusal .ensures)
     ∙ no-announcing _ (t1 (s2 (sized-at e2))) (t2 (sized-at e2)) (right-size e2) (t3 e3) (t4 e4) (t5 e5)
     (sym (c .before .before .can-announce .ensures) ∙ not-true (c .before .before .can-announce .result) (c .before .if2 .taken))
 
 returns-8 : tie.Need-returns-8
 returns-8 c =
-    let e5 = c .before .before in
-    let e4 = s5 e5 in
-    let e3 = s4 e4 in
-    let e2 = s3 e3 in
+    let e5 = c .before .before in let e4 = s5 e5 in let e3 = s4 e4 in let e2 = s3 e3 in
     whole _ (t1 (s2 (sized-at e2))) (t2 (sized-at e2)) (right-size e2) (t3 e3) (t4 e4) (t5 e5)
     (sym (c .before .can-announce .ensures) ∙ not-false (c .before .can-announce .result) (c .if2 .left))
 
 pub read-head-spec : {M : Type 1} → statement M
 read-head-spec =
-    tie.close
-    (tie.spec
-    read-number-requires
-    enum-known-first
-    enum-told
-    refusal-requires
-    returns
-    read-number-requires-2
-    enum-known-second
-    enum-told-2
-    refusal-requires-2
-    returns-2
-    is-sized-requires
-    returns-3
-    read-number-requires-3
-    enum-known-third
-    enum-told-3
-    refusal-requires-3
-    returns-4
-    read-number-requires-4
-    enum-known-fourth
-    enum-told-4
-    refusal-requires-4
-    returns-5
-    read-number-requires-5
-    enum-known-fifth
-    enum-told-5
-    refusal-requires-5
-    returns-6
-    can-announce-requires
-    announce-refusal-requires
-    returns-7
-    returns-8)
+    tie.close (tie.spec (λ c κs. search needs) (λ c. search needs) (λ c. search needs) (λ c κs. search needs)
+    (λ c. ap Refused (c .refusal .ensures ∙ ap number-refusal (c .before .enum-told .given .1)) ∙ no-w _ (m1 c))
+    (λ c κs. search needs) (λ c. search needs) (λ c. search needs) (λ c κs. search needs) returns-2
+    (λ c κs. search needs) returns-3 (λ c κs. search needs) (λ c. search needs) (λ c. search needs)
+    (λ c κs. search needs) returns-4 (λ c κs. search needs) (λ c. search needs) (λ c. search needs)
+    (λ c κs. search needs) returns-5 (λ c κs. search needs) (λ c. search needs) (λ c. search needs)
+    (λ c κs. search needs) returns-6 (λ c κs. search needs) (λ c κs. search needs) returns-7 returns-8)

@@ -4,7 +4,7 @@ use native.Mathlib.Omega.{arith}
 use borrow.Author.Needs.{needs}
 use Rattle.blockfile.specs.Record.{coefficient, count}
 use Rattle.blockfile.specs.declared.record.Found.the-variants.{Refused}
-use Rattle.blockfile.specs.Answer.{RecordAt, headRefusal, placeRefusal}
+use Rattle.blockfile.specs.Inner.{RecordAt, head-refusal, place-refusal}
 use Rattle.blockfile.proofs.Records.{coefficient-lawful, pixel-lawful}
 use Rattle.blockfile.proofs.Fill.{FilledTo, as-many, filled-to, filled-not}
 use Rattle.blockfile.proofs.Loads.{HeadTook, head-took, head-missed, at-end, no-head, no-coefficients, no-pixels, all-read}
@@ -18,7 +18,8 @@ entry c = c .before .before .before
 abbrev s1 : tie.After-known-told → tie.Else1
 s1 c = c .before .before .before .before
 
-h-took : (c : tie.After-known-told) → HeadTook (entry (s1 c) .args .version) (entry (s1 c) .args .s .now) (entry (s1 c) .args .at) (c .before .start .given .0 .0) (c .before .start .given .0 .1 .0)
+h-took : (c : tie.After-known-told) → HeadTook (entry (s1 c) .args .version) (entry (s1 c) .args .s .now)
+    (entry (s1 c) .args .at) (c .before .start .given .0 .0) (c .before .start .given .0 .1 .0)
 h-took c = head-took _ _ _ _ _ (sym (c .before .start .given .1) ∙ c .before .before .before .read-head .ensures)
 
 -- and the coefficients
@@ -26,137 +27,54 @@ abbrev s2 : tie.After-known-told2 → tie.After-known-told
 s2 c = c .before .before .before .before .before .before .before
 
 -- as many as the definition counts
-counted : (c : tie.After-coefficient-count) → c .coefficient-count .result ≡ count (entry (s1 (c .before)) .args .version) (c .before .before .start .given .0 .0)
+counted : (c : tie.After-coefficient-count)
+    → c .coefficient-count .result ≡ count (entry (s1 (c .before)) .args .version) (c .before .before .start .given .0 .0)
 counted c = c .coefficient-count .ensures .0
 
-m-took : (c : tie.After-known-told2) → FilledTo coefficient (entry (s1 (s2 c)) .args .s .now) (s2 c .before .start .given .0 .1 .0) (count (entry (s1 (s2 c)) .args .version) (s2 c .before .start .given .0 .0))
-    (entry (s1 (s2 c)) .args .coefficients .now) (c .before .before .before .before .read-coefficients .last .1 .1 .1 .0) (c .before .middle .given .0 .0)
+m-took : (c : tie.After-known-told2) → FilledTo coefficient (entry (s1 (s2 c)) .args .s .now)
+    (s2 c .before .start .given .0 .1 .0) (count (entry (s1 (s2 c)) .args .version) (s2 c .before .start .given .0 .0))
+    (entry (s1 (s2 c)) .args .coefficients .now) (c .before .before .before .before .read-coefficients .last .1 .1 .1 .0)
+    (c .before .middle .given .0 .0)
 m-took c =
-    let f = c .before .before .before .before in
-    filled-to coefficient-lawful _ (c .before .middle .given .1)
+    let f = c .before .before .before .before in filled-to coefficient-lawful _ (c .before .middle .given .1)
     (as-many (counted (f .before .before)) (f .read-coefficients .ensures))
-
-returns : tie.Need-returns
-returns c = at-end _ _ (c .if1 .taken)
-
-read-head-requires : tie.Need-read-head-requires
-read-head-requires c κs = search needs
-
-enum-known-start : tie.Need-enum-known-start
-enum-known-start c = search needs
-
-enum-told : tie.Need-enum-told
-enum-told c = search needs
-
-head-refusal-requires : tie.Need-head-refusal-requires
-head-refusal-requires c κs = search needs
 
 returns-2 : tie.Need-returns-2
 returns-2 c =
     let k = c .before .enum-told .given .1 in
-    subst (RecordAt _ _ _ _ _ _ _) (sym (ap Refused (c .head-refusal .ensures ∙ ap headRefusal k)))
+    subst (RecordAt _ _ _ _ _ _ _) (sym (ap Refused (c .head-refusal .ensures ∙ ap head-refusal k)))
     (no-head _ _ (c .before .before .before .before .if1 .left) (head-missed _ _ _ _ (sym k ∙ c .before .before .before .read-head .ensures)))
-
-coefficient-count-requires : tie.Need-coefficient-count-requires
-coefficient-count-requires c κs = (h-took c .few, h-took c .allowed)
-
-cast-count : tie.Need-cast-count
-cast-count c = search needs
 
 read-coefficients-requires : tie.Need-read-coefficients-requires
 read-coefficients-requires c κs =
-    let h = c .before .before in
-    (h-took h .inside, omega (arith, c .before .coefficient-count .ensures .1, entry (s1 h) .pre))
-
-enum-known-middle : tie.Need-enum-known-middle
-enum-known-middle c = search needs
-
-enum-told-2 : tie.Need-enum-told-2
-enum-told-2 c = search needs
-
-refusal-requires : tie.Need-refusal-requires
-refusal-requires c κs = search needs
-
-same-length : tie.Need-same-length
-same-length c = search needs
+    let h = c .before .before in (h-took h .inside, omega (arith, c .before .coefficient-count .ensures .1, entry (s1 h) .pre))
 
 returns-3 : tie.Need-returns-3
 returns-3 c =
-    let k = c .before .enum-told2 .given .1 in
-    let f = c .before .before .before .before in
+    let k = c .before .enum-told2 .given .1 in let f = c .before .before .before .before in
     let c1 = f .before .before .before in
-    subst (RecordAt _ _ _ _ _ _ _) (sym (ap Refused (c .refusal .ensures ∙ ap placeRefusal k)))
+    subst (RecordAt _ _ _ _ _ _ _) (sym (ap Refused (c .refusal .ensures ∙ ap place-refusal k)))
     (no-coefficients _ _ (s1 c1 .if1 .left) (h-took c1) (filled-not _ k (as-many (counted (f .before .before)) (f .read-coefficients .ensures))))
-
-mul-n : tie.Need-mul-n
-mul-n c = omega (arith, h-took (s2 c) .few)
-
-cast-n : tie.Need-cast-n
-cast-n c = omega (arith, h-took (s2 c) .few)
-
-read-pixels-requires : tie.Need-read-pixels-requires
-read-pixels-requires c κs = (m-took (c .before) .inside, omega (arith, h-took (s2 (c .before)) .few, entry (s1 (s2 (c .before))) .pre))
-
-enum-known-end : tie.Need-enum-known-end
-enum-known-end c = search needs
-
-enum-told-3 : tie.Need-enum-told-3
-enum-told-3 c = search needs
-
-refusal-requires-2 : tie.Need-refusal-requires-2
-refusal-requires-2 c κs = search needs
-
-same-length-2 : tie.Need-same-length-2
-same-length-2 c = search needs
-
-same-length-3 : tie.Need-same-length-3
-same-length-3 c = search needs
 
 returns-4 : tie.Need-returns-4
 returns-4 c =
-    let k = c .before .enum-told3 .given .1 in
-    let c2 = c .before .before .before .before .before .before .before in
-    subst (RecordAt _ _ _ _ _ _ _) (sym (ap Refused (c .refusal2 .ensures ∙ ap placeRefusal k)))
-    (no-pixels _ _ (s1 (s2 c2) .if1 .left) (h-took (s2 c2)) (m-took c2) (filled-not _ k (c .before .before .before .before .before .read-pixels .ensures)))
-
-same-length-4 : tie.Need-same-length-4
-same-length-4 c = search needs
-
-same-length-5 : tie.Need-same-length-5
-same-length-5 c = search needs
+    let k = c .before .enum-told3 .given .1 in let c2 = c .before .before .before .before .before .before .before in
+    subst (RecordAt _ _ _ _ _ _ _) (sym (ap Refused (c .refusal2 .ensures ∙ ap place-refusal k)))
+    (no-pixels _ _ (s1 (s2 c2) .if1 .left) (h-took (s2 c2)) (m-took c2)
+    (filled-not _ k (c .before .before .before .before .before .read-pixels .ensures)))
 
 returns-5 : tie.Need-returns-5
 returns-5 c =
     let c2 = c .before .before .before .before .before .before .before in
-    all-read _ _ (s1 (s2 c2) .if1 .left) (h-took (s2 c2)) (m-took c2) (filled-to pixel-lawful _ (c .before .end .given .1) (c .before .before .before .before .before .read-pixels .ensures))
+    all-read _ _ (s1 (s2 c2) .if1 .left) (h-took (s2 c2)) (m-took c2)
+    (filled-to pixel-lawful _ (c .before .end .given .1) (c .before .before .before .before .before .read-pixels .ensures))
 
 pub read-record-spec : {M : Type 1} → statement M
 read-record-spec =
-    tie.close
-    (tie.spec
-    returns
-    read-head-requires
-    enum-known-start
-    enum-told
-    head-refusal-requires
-    returns-2
-    coefficient-count-requires
-    cast-count
-    read-coefficients-requires
-    enum-known-middle
-    enum-told-2
-    refusal-requires
-    same-length
-    returns-3
-    mul-n
-    cast-n
-    read-pixels-requires
-    enum-known-end
-    enum-told-3
-    refusal-requires-2
-    same-length-2
-    same-length-3
-    returns-4
-    same-length-4
-    same-length-5
-    returns-5)
+    tie.close (tie.spec (λ c. at-end _ _ (c .if1 .taken)) (λ c κs. search needs) (λ c. search needs)
+    (λ c. search needs) (λ c κs. search needs) returns-2 (λ c κs. (h-took c .few, h-took c .allowed))
+    (λ c. search needs) read-coefficients-requires (λ c. search needs) (λ c. search needs) (λ c κs. search needs)
+    (λ c. search needs) returns-3 (λ c. omega (arith, h-took (s2 c) .few)) (λ c. omega (arith, h-took (s2 c) .few))
+    (λ c κs. (m-took (c .before) .inside, omega (arith, h-took (s2 (c .before)) .few, entry (s1 (s2 (c .before))) .pre)))
+    (λ c. search needs) (λ c. search needs) (λ c κs. search needs) (λ c. search needs) (λ c. search needs) returns-4
+    (λ c. search needs) (λ c. search needs) returns-5)

@@ -23,48 +23,18 @@ abbrev top : tie.After-read-number Inv-loop μ-loop → tie.At-loop Inv-loop μ-
 top c = c .before .before
 
 -- what is known where a number was got, and where none was
-got-here : (c : tie.After-known-told Inv-loop μ-loop)
-    → let r = c .before .before .before in Took (top r .before .before .args .s .now) (top r .loop .p) (c .before .number .given .0 .0) (c .before .number .given .0 .1 .0)
+got-here : (c : tie.After-known-told Inv-loop μ-loop) → let r = c .before .before .before in
+    Took (top r .before .before .args .s .now) (top r .loop .p) (c .before .number .given .0 .0) (c .before .number .given .0 .1 .0)
 got-here c = took _ _ _ _ (sym (c .before .number .given .1) ∙ c .before .before .before .read-number .ensures)
 
 missed-here : (c : tie.After-known-told2 Inv-loop μ-loop)
     → let r = c .before .before .before in Missed (top r .before .before .args .s .now) (top r .loop .p) (c .before .number2 .given .0 .0)
 missed-here c = missed _ _ _ (sym (c .before .number2 .given .1) ∙ c .before .before .before .read-number .ensures)
 
-loop-holds : tie.Need-loop-holds Inv-loop μ-loop
-loop-holds c = begin coefficient _ _ _ _ (c .before .pre .0)
-
-read-number-requires : tie.Need-read-number-requires Inv-loop μ-loop
-read-number-requires c κs = tt
-
-enum-known-number : tie.Need-enum-known-number Inv-loop μ-loop
-enum-known-number c = search needs
-
-coefficient-of-requires : tie.Need-coefficient-of-requires Inv-loop μ-loop
-coefficient-of-requires c κs = tt
-
-mul-t13 : tie.Need-mul-t13 Inv-loop μ-loop
-mul-t13 c = search needs
-
-slice-set-from-out : tie.Need-slice-set-from-out Inv-loop μ-loop
-slice-set-from-out c = search needs
-
-enum-known-number-2 : tie.Need-enum-known-number-2 Inv-loop μ-loop
-enum-known-number-2 c = search needs
-
-same-length : tie.Need-same-length Inv-loop μ-loop
-same-length c = top (c .before .before .before) .loop .inv .same-length
-
 returns : tie.Need-returns Inv-loop μ-loop
 returns c =
     refusing coefficient _ _ _ _ (top (c .before .before .before) .loop .inv) _ (c .before .before .before .before .loop-test .taken)
     (coefficient-refused (missed-here c))
-
-add-i : tie.Need-add-i Inv-loop μ-loop
-add-i c = omega arith
-
-loop-less : tie.Need-loop-less Inv-loop μ-loop
-loop-less c = omega arith
 
 -- the coefficient that is stored is the number's
 stored : (c : tie.After-coefficient-of Inv-loop μ-loop) → zag (c .before .before .number .given .0 .0) ≡ toZ w32 (ofZ w32 (c .coefficient-of .result))
@@ -72,33 +42,14 @@ stored c = sym (c .coefficient-of .ensures) ∙ sym (toZ-ofZ w32 (c .coefficient
 
 loop-again : tie.Need-loop-again Inv-loop μ-loop
 loop-again c =
-    one-more coefficient _ _ _ _ (top (c .before .before .before .before) .loop .inv) _ _ (c .before .before .before .before .before .loop-test .taken)
-    (got-here (c .before) .inside)
+    one-more coefficient _ _ _ _ (top (c .before .before .before .before) .loop .inv) _ _
+    (c .before .before .before .before .before .loop-test .taken) (got-here (c .before) .inside)
     (coefficient-got (got-here (c .before)) (stored c))
-
-same-length-2 : tie.Need-same-length-2 Inv-loop μ-loop
-same-length-2 c = c .before .loop .inv .same-length
-
-returns-2 : tie.Need-returns-2 Inv-loop μ-loop
-returns-2 c = ended coefficient _ _ _ _ (c .before .loop .inv) (c .loop-test .left)
 
 pub read-coefficients-spec : {M : Type 1} → statement M
 read-coefficients-spec =
-    tie.close
-    (tie.spec
-    Inv-loop
-    μ-loop
-    loop-holds
-    read-number-requires
-    enum-known-number
-    coefficient-of-requires
-    mul-t13
-    slice-set-from-out
-    enum-known-number-2
-    same-length
-    returns
-    add-i
-    loop-less
-    loop-again
-    same-length-2
-    returns-2)
+    tie.close (tie.spec Inv-loop μ-loop (λ c. begin coefficient _ _ _ _ (c .before .pre .0)) (λ c κs. tt)
+    (λ c. search needs) (λ c κs. tt) (λ c. search needs) (λ c. search needs) (λ c. search needs)
+    (λ c. top (c .before .before .before) .loop .inv .same-length)
+    returns (λ c. omega arith) (λ c. omega arith) loop-again (λ c. c .before .loop .inv .same-length)
+    (λ c. ended coefficient _ _ _ _ (c .before .loop .inv) (c .loop-test .left)))

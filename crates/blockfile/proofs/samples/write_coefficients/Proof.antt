@@ -7,7 +7,7 @@ use lib.IntN.{pos}
 use lib.ListN.{length, getD}
 use mir.Syntax.{w32}
 use mir.ValLaws.{toZ-ofZ}
-use Rattle.blockfile.specs.Number.{writeNumber}
+use Rattle.blockfile.specs.Number.{write-number}
 use Rattle.blockfile.specs.Zigzag.{zig}
 use Rattle.blockfile.specs.Record.{coefficient}
 use Rattle.blockfile.proofs.Numbers.{number-short}
@@ -21,60 +21,23 @@ Inv-loop out₀ at values p₀ i₀ out p i = Writing coefficient values out₀ 
 abbrev μ-loop : tie.MeasureT-loop
 μ-loop out₀ at values p₀ i₀ out p i = length values - i
 
-loop-holds : tie.Need-loop-holds Inv-loop μ-loop
-loop-holds c = begin coefficient _ _ _ (c .before .pre)
-
-mul-number-of : tie.Need-mul-number-of Inv-loop μ-loop
-mul-number-of c = search needs
-
-shared-slice-copy-out-number-of : tie.Need-shared-slice-copy-out-number-of Inv-loop μ-loop
-shared-slice-copy-out-number-of c = search needs
-
-number-of-requires : tie.Need-number-of-requires Inv-loop μ-loop
-number-of-requires c κs = search needs
-
-write-number-requires : tie.Need-write-number-requires Inv-loop μ-loop
-write-number-requires c κs = omega arith
-
-add-i : tie.Need-add-i Inv-loop μ-loop
-add-i c = omega arith
-
-loop-less : tie.Need-loop-less Inv-loop μ-loop
-loop-less c = omega arith
-
 -- the coefficient is read as it stands in the slice
 same-value : (c : tie.After-number-of Inv-loop μ-loop)
     → let l = c .before .before .before in zig (getD (l .before .before .args .values .now) (l .loop .i) (pos 0)) ≡ c .number-of .result
 same-value c =
     let l = c .before .before .before in
-    ap zig (sym (toZ-ofZ w32 (getD (l .before .before .args .values .now) (l .loop .i) (pos 0)) (record { sfits = c .before .number-of-arg .given }))) ∙ sym (c .number-of .ensures)
+    ap zig (sym (toZ-ofZ w32 (getD (l .before .before .args .values .now) (l .loop .i) (pos 0))
+    (record { sfits = c .before .number-of-arg .given }))) ∙ sym (c .number-of .ensures)
 
 loop-again : tie.Need-loop-again Inv-loop μ-loop
 unfolding coefficient
 loop-again c =
     let n = c .before .before .before .before in
     one-more coefficient _ _ _ (n .before .before .before .loop .inv) (pos 0) _ (n .before .before .loop-test .taken)
-    (ap writeNumber (same-value n)) (number-short (n .number-of .result)) (c .before .before .write-number .ensures)
-
-same-length : tie.Need-same-length Inv-loop μ-loop
-same-length c = c .before .loop .inv .same-length
-
-returns : tie.Need-returns Inv-loop μ-loop
-returns c = finish coefficient _ _ _ (c .before .loop .inv) (c .loop-test .left)
+    (ap write-number (same-value n)) (number-short (n .number-of .result)) (c .before .before .write-number .ensures)
 
 pub write-coefficients-spec : {M : Type 1} → statement M
 write-coefficients-spec =
-    tie.close
-    (tie.spec
-    Inv-loop
-    μ-loop
-    loop-holds
-    mul-number-of
-    shared-slice-copy-out-number-of
-    number-of-requires
-    write-number-requires
-    add-i
-    loop-less
-    loop-again
-    same-length
-    returns)
+    tie.close (tie.spec Inv-loop μ-loop (λ c. begin coefficient _ _ _ (c .before .pre)) (λ c. search needs)
+    (λ c. search needs) (λ c κs. search needs) (λ c κs. omega arith) (λ c. omega arith) (λ c. omega arith) loop-again
+    (λ c. c .before .loop .inv .same-length) (λ c. finish coefficient _ _ _ (c .before .loop .inv) (c .loop-test .left)))

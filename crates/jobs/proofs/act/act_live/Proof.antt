@@ -19,30 +19,9 @@ take-zeros (suc m) (suc n) l = ap (λ (t : List ℤ). pos 0 ∷ t) (take-zeros m
 few : (c : tie.Start) → area (c .args .head) ≤ 1024
 few c = area-most (c .args .head) (c .pre .size)
 
-mul-n : tie.Need-mul-n
-mul-n c = omega (arith, few (c .before))
-
-cast-n : tie.Need-cast-n
-cast-n c = omega (arith, few (c .before))
-
-array-borrow-prefix-block : tie.Need-array-borrow-prefix-block
-array-borrow-prefix-block c = few (c .before .before .before)
-
-slice-aggregate-live-in : tie.Need-slice-aggregate-live-in
-slice-aggregate-live-in c = simp length-take (omega (arith, few (c .before .before .before .before)))
-
-live-in-requires : tie.Need-live-in-requires
-live-in-requires c κs = let s = c .before .before .before .before in (s .pre, take-zeros (area (s .args .head)) 1024 (few s))
-
 pub act-live-spec : {M : Type 1} → statement M
 act-live-spec =
-    tie.close
-    (tie.spec
-    mul-n
-    cast-n
-    array-borrow-prefix-block
-    slice-aggregate-live-in
-    live-in-requires
-    (λ c. search needs)
-    (λ c. search needs)
-    (λ c. search needs))
+    tie.close (tie.spec (λ c. omega (arith, few (c .before))) (λ c. omega (arith, few (c .before)))
+    (λ c. few (c .before .before .before)) (λ c. simp length-take (omega (arith, few (c .before .before .before .before))))
+    (λ c κs. let s = c .before .before .before .before in (s .pre, take-zeros (area (s .args .head)) 1024 (few s)))
+    (λ c. search needs) (λ c. search needs) (λ c. search needs))

@@ -12,12 +12,6 @@ use Rattle.jobs.proofs.act.act_plain.Tie as tie
 small : (c : tie.Start) → c .args .head .announced ≤ 2147483647
 small c = leb-true (c .args .head .announced) 2147483647 (c .pre .allowed)
 
-cast-eob : tie.Need-cast-eob
-cast-eob c = let l = small (c .before .before .before .before .before .before) in search needs
-
-view-of-requires : tie.Need-view-of-requires
-view-of-requires c κs = narrow (c .before .before .before .before .before .before .before .pre)
-
 returns : tie.Need-returns
 returns c =
     let s = c .before .before .before .before .before .before .before .before .before .before .before .before .before in
@@ -26,15 +20,7 @@ returns c =
 
 pub act-plain-spec : {M : Type 1} → statement M
 act-plain-spec =
-    tie.close
-    (tie.spec
-    (λ c. search needs)
-    (λ c. search needs)
-    (λ c. search needs)
-    (λ c. search needs)
-    cast-eob
-    view-of-requires
-    (λ c κs. search needs)
-    (λ c. search needs)
-    (λ c. search needs)
-    returns)
+    tie.close (tie.spec (λ c. search needs) (λ c. search needs) (λ c. search needs) (λ c. search needs)
+    (λ c. let l = small (c .before .before .before .before .before .before) in search needs)
+    (λ c κs. narrow (c .before .before .before .before .before .before .before .pre))
+    (λ c κs. search needs) (λ c. search needs) (λ c. search needs) returns)

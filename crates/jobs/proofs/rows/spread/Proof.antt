@@ -27,9 +27,7 @@ here c =
 
 loop-again : tie.Need-loop-again Inv-loop μ-loop
 loop-again c =
-    let l = c .before .before .before in
-    let live = l .before .pre .0 in
-    let more = c .before .before .loop-test .taken in
+    let l = c .before .before .before in let live = l .before .pre .0 in let more = c .before .before .loop-test .taken in
     let same = toZ-ofZ w32 (at (l .before .args .rows .now) (l .loop .j)) (record { sfits = c .before .block .given }) in
     ⊎-elim (λ a. next-row _ _ _ _ live (l .loop .inv) more same (a .0 .taken) (a .1) (a .2))
     (λ a. next-column _ _ _ _ live (l .loop .inv) more same (a .0 .left) (a .1) (a .2)) (c .if1 .came)
@@ -41,19 +39,8 @@ same-length c =
 
 pub spread-spec : {M : Type 1} → statement M
 spread-spec =
-    tie.close
-    (tie.spec Inv-loop μ-loop
-    (λ c. begin _ _ _ _ (c .pre .0) (c .pre .1))
-    (λ c. search needs)
-    (λ c. search needs)
-    (λ c. omega (arith, here c))
-    (λ c. omega (arith, here c))
-    (λ c. omega (arith, here c))
+    tie.close (tie.spec Inv-loop μ-loop (λ c. begin _ _ _ _ (c .pre .0) (c .pre .1)) (λ c. search needs)
+    (λ c. search needs) (λ c. omega (arith, here c)) (λ c. omega (arith, here c)) (λ c. omega (arith, here c))
     (λ c. omega (arith, here c, as-long _ _ _ _ (c .before .before .before .pre .0) (c .before .before .loop .inv)))
-    (λ c. omega (arith, here c))
-    (λ c. omega (arith, here (c .before)))
-    (λ c. search needs)
-    (λ c. search needs)
-    loop-again
-    same-length
-    (λ c. finish _ _ _ _ (c .before .before .pre .0) (c .before .loop .inv) (c .loop-test .left)))
+    (λ c. omega (arith, here c)) (λ c. omega (arith, here (c .before))) (λ c. search needs) (λ c. search needs)
+    loop-again same-length (λ c. finish _ _ _ _ (c .before .before .pre .0) (c .before .loop .inv) (c .loop-test .left)))

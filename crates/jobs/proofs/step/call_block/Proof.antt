@@ -9,28 +9,18 @@ returns : tie.Need-returns
 returns c =
     let n = c .before .before .before .before .before .before .before .before in
     let a = n .before .before .before .before .before .before .before .before .before .before .args in
-    refused-block (a .«record») (n .before .before .before .before .act .ensures) (n .number .ensures) (c .before .before .before .before .before .before .before .if1 .taken) (c .before .before .before .before .refuse .ensures)
+    refused-block (a .«record») (n .before .before .before .before .act .ensures) (n .number .ensures)
+    (c .before .before .before .before .before .before .before .if1 .taken) (c .before .before .before .before .refuse .ensures)
 
 returns-2 : tie.Need-returns-2
 returns-2 c =
     let n = c .before .before .before .before .before .before .before in
     let a = n .before .before .before .before .before .before .before .before .before .before .args in
-    done-block (a .«record») (n .before .before .before .before .act .ensures) (n .number .ensures) (c .before .before .before .before .before .before .if1 .left) (omega arith) (c .before .before .write-record .ensures)
+    done-block (a .«record») (n .before .before .before .before .act .ensures) (n .number .ensures)
+    (c .before .before .before .before .before .before .if1 .left) (omega arith) (c .before .before .write-record .ensures)
 
 pub call-block-spec : {M : Type 1} → statement M
 call-block-spec =
-    tie.close
-    (tie.spec
-    (λ c κs. search needs)
-    (λ c κs. search needs)
-    (λ c κs. search needs)
-    (λ c. search needs)
-    (λ c. search needs)
-    (λ c. search needs)
-    (λ c. search needs)
-    returns
-    (λ c κs. search needs)
-    (λ c. search needs)
-    (λ c. search needs)
-    (λ c. search needs)
-    returns-2)
+    tie.close (tie.spec (λ c κs. search needs) (λ c κs. search needs) (λ c κs. search needs) (λ c. search needs)
+    (λ c. search needs) (λ c. search needs) (λ c. search needs) returns (λ c κs. search needs) (λ c. search needs)
+    (λ c. search needs) (λ c. search needs) returns-2)

@@ -2,63 +2,59 @@
 use mathlib.Core.Path.{ap}
 use native.Mathlib.Omega.{arith}
 use lib.ListN.{length-take}
-use Rattle.jobs.specs.Answer.{blockOf, isTotals}
+use Rattle.jobs.specs.Inner.{block-of}
+use Rattle.jobs.specs.Stepping.{is-totals}
 use Rattle.jobs.proofs.Turns.{as-job, sane-at}
 use borrow.Author.Needs.{needs}
 use Rattle.jobs.proofs.step.do_block.Statement.{statement}
 use Rattle.jobs.proofs.step.do_block.Tie as tie
 
 slice-aggregate-count-block : tie.Need-slice-aggregate-count-block
-slice-aggregate-count-block c = simp length-take (omega (arith, c .before .before .before .before .before .before .before .before .before .before .pre .0 .few-pixels))
+slice-aggregate-count-block c = simp length-take
+    (omega (arith, c .before .before .before .before .before .before .before .before .before .before .pre .0 .few-pixels))
 
 count-block-requires : tie.Need-count-block-requires
 count-block-requires c κs =
-    let s = c .before .before .before .before .before .before .before .before .before .before .before .before .before in
-    (s .pre .0, (sane-at (s .args .job) (s .args .sums .now) (ap isTotals (c .before .before .before .before .before .before .before .job .given .1)) (s .pre .1 .0), (simp length-take (omega (arith, s .pre .0 .few-pixels)), s .pre .1 .1)))
+    let s = c .before .before .before .before .before .before .before .before .before .before .before .before .before in (
+      s .pre .0,
+      (
+        sane-at (s .args .job) (s .args .sums .now)
+            (ap is-totals (c .before .before .before .before .before .before .before .job .given .1)) (s .pre .1 .0),
+        (simp length-take (omega (arith, s .pre .0 .few-pixels)), s .pre .1 .1),
+      ),
+    )
 
 returns : tie.Need-returns
 returns c =
-    let a = c .before .before .before .before .before .before .before .before .before .before .before .before .before .before .before .before .before .before .args in
-    as-job (a .job) _ (c .before .before .before .before .before .before .before .before .before .before .before .before .enum-told .given .1) (a .version) (a .«record») (blockOf (a .head) (a .coefficients .now) (a .pixels .now)) (a .next)
-    (a .sums .now) (a .output .now) (a .put) (a .error .now) (a .told) _ _ _ _ (c .before .before .before .before .before .before .before .call-block .ensures (a .sums .now))
+    let a = c .before .before .before .before .before .before .before .before .before .before .before .before .before .before
+    .before .before .before .before .args in
+    as-job (a .job) _ (c .before .before .before .before .before .before .before .before .before .before .before .before
+    .enum-told .given .1) (a .version) (a .«record») (block-of (a .head) (a .coefficients .now) (a .pixels .now)) (a .next)
+    (a .sums .now) (a .output .now) (a .put) (a .error .now) (a .told) _ _ _ _
+    (c .before .before .before .before .before .before .before .call-block .ensures (a .sums .now))
 
 returns-2 : tie.Need-returns-2
 returns-2 c =
     let a = c .before .before .before .before .before .before .before .before .before .before .before .before .before .before .before .before .args in
-    as-job (a .job) _ (c .before .before .before .before .before .before .before .before .before .before .enum-told2 .given .1) (a .version) (a .«record») (blockOf (a .head) (a .coefficients .now) (a .pixels .now)) (a .next)
-    (a .sums .now) (a .output .now) (a .put) (a .error .now) (a .told) _ _ _ _ (c .before .before .before .before .before .mend-block .ensures (a .sums .now))
+    as-job (a .job) _ (c .before .before .before .before .before .before .before .before .before .before .enum-told2 .given .1)
+    (a .version) (a .«record») (block-of (a .head) (a .coefficients .now) (a .pixels .now)) (a .next)
+    (a .sums .now) (a .output .now) (a .put) (a .error .now) (a .told) _ _ _ _
+    (c .before .before .before .before .before .mend-block .ensures (a .sums .now))
 
 returns-3 : tie.Need-returns-3
 returns-3 c =
-    let a = c .before .before .before .before .before .before .before .before .before .before .before .before .before .before .before .before .before .before .before .before .before .before .before .before .args in
-    as-job (a .job) _ (c .before .before .before .before .before .before .before .before .before .before .before .before .before .before .before .before .before .before .job .given .1) (a .version) (a .«record») (blockOf (a .head) (a .coefficients .now) (a .pixels .now)) (a .next)
-    (a .sums .now) (a .output .now) (a .put) (a .error .now) (a .told) _ _ _ _ (c .before .before .before .before .before .before .before .before .before .before .count-block .ensures)
+    let a = c .before .before .before .before .before .before .before .before .before .before .before .before .before .before
+    .before .before .before .before .before .before .before .before .before .before .args in
+    as-job (a .job) _ (c .before .before .before .before .before .before .before .before .before .before .before .before .before
+    .before .before .before .before .before .job .given .1) (a .version) (a .«record»)
+    (block-of (a .head) (a .coefficients .now) (a .pixels .now)) (a .next)
+    (a .sums .now) (a .output .now) (a .put) (a .error .now) (a .told) _ _ _ _
+    (c .before .before .before .before .before .before .before .before .before .before .count-block .ensures)
 
 pub do-block-spec : {M : Type 1} → statement M
 do-block-spec =
-    tie.close
-    (tie.spec
-    (λ c. search needs)
-    (λ c κs. search needs)
-    (λ c. search needs)
-    (λ c κs. search needs)
-    (λ c. search needs)
-    (λ c. search needs)
-    slice-aggregate-count-block
-    count-block-requires
-    (λ c. search needs)
-    (λ c. search needs)
-    (λ c. search needs)
-    (λ c. search needs)
-    returns
-    (λ c. search needs)
-    (λ c. search needs)
-    (λ c. search needs)
-    (λ c. search needs)
-    returns-2
-    (λ c. search needs)
-    (λ c. search needs)
-    (λ c. search needs)
-    (λ c. search needs)
-    (λ c. search needs)
-    returns-3)
+    tie.close (tie.spec (λ c. search needs) (λ c κs. search needs) (λ c. search needs) (λ c κs. search needs)
+    (λ c. search needs) (λ c. search needs) slice-aggregate-count-block count-block-requires (λ c. search needs)
+    (λ c. search needs) (λ c. search needs) (λ c. search needs) returns (λ c. search needs) (λ c. search needs)
+    (λ c. search needs) (λ c. search needs) returns-2 (λ c. search needs) (λ c. search needs) (λ c. search needs)
+    (λ c. search needs) (λ c. search needs) returns-3)

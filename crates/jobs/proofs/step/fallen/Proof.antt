@@ -12,18 +12,21 @@ use Rattle.jobs.proofs.step.fallen.Tie as tie
 
 neither : (c : tie.Joined1) → let a = c .before .before .before .args in eqb (a .k) 15 && not (a .is-last) ≡ false
 neither c =
-    let a = c .before .before .before .args in
-    ⊎-elim (λ w. with-false (eqb (a .k) 15) (not (a .is-last)) (w .1 .left)) (λ w. ap (λ (t : Bool). t && not (a .is-last)) (ne-eqb (a .k) 15 (w .left))) (c .if1 .came)
+    let a = c .before .before .before .args in ⊎-elim (λ w. with-false (eqb (a .k) 15) (not (a .is-last)) (w .1 .left))
+    (λ w. ap (λ (t : Bool). t && not (a .is-last)) (ne-eqb (a .k) 15 (w .left))) (c .if1 .came)
   where
     with-false : (t u : Bool) → u ≡ false → t && u ≡ false
     with-false true u e = e
     with-false false u e = refl
 
 returns : tie.Need-returns
-returns c = let a = c .before .before .before .before .args in falls-more (a .job) (a .k) (a .is-last) (c .before .if1 .taken) (not-true (a .is-last) (c .if2 .taken)) (omega arith) (omega arith)
+returns c = let a = c .before .before .before .before .args in
+    falls-more (a .job) (a .k) (a .is-last) (c .before .if1 .taken) (not-true (a .is-last) (c .if2 .taken)) (omega arith) (omega arith)
 
 returns-2 : tie.Need-returns-2
-returns-2 c = let a = c .before .before .before .before .before .before .before .before .before .before .args in falls-refused (a .job) (a .k) (a .is-last) (neither (c .before .before .before .before .before .before .before)) (c .before .before .before .before .refuse .ensures)
+returns-2 c = let a = c .before .before .before .before .before .before .before .before .before .before .args in
+    falls-refused (a .job) (a .k) (a .is-last) (neither (c .before .before .before .before .before .before .before))
+    (c .before .before .before .before .refuse .ensures)
 
 pub fallen-spec : {M : Type 1} → statement M
 fallen-spec = tie.close (tie.spec returns (λ c κs. search needs) (λ c. search needs) (λ c. search needs) returns-2)

@@ -8,22 +8,19 @@ use Rattle.jobs.proofs.step.finish.Tie as tie
 
 put-report-requires : tie.Need-put-report-requires
 put-report-requires c κs =
-    let t = c .before .before in
-    let s = t .before .before .before .before in
+    let t = c .before .before in let s = t .before .before .before .before in
     (sane-at (s .args .job) (s .args .sums .now) (sym (t .is-totals .ensures) ∙ c .before .if1 .taken) (s .pre .0) .size, omega arith)
 
 returns : tie.Need-returns
 returns c =
-    let t = c .before .before .before .before .before in
-    let s = t .before .before .before .before in
-    ends-reported (s .args .sums .now) (s .args .job) (sym (t .is-totals .ensures) ∙ c .before .before .before .before .if1 .taken) (omega arith) (c .before .before .put-report .ensures)
+    let t = c .before .before .before .before .before in let s = t .before .before .before .before in
+    ends-reported (s .args .sums .now) (s .args .job)
+    (sym (t .is-totals .ensures) ∙ c .before .before .before .before .if1 .taken) (omega arith) (c .before .before .put-report .ensures)
 
 returns-2 : tie.Need-returns-2
 returns-2 c =
-    let t = c .before in
-    let s = t .before .before .before .before in
+    let t = c .before in let s = t .before .before .before .before in
     ends-silent (s .args .sums .now) (s .args .job) (sym (t .is-totals .ensures) ∙ c .if1 .left) (omega arith) (omega arith)
 
 pub finish-spec : {M : Type 1} → statement M
-finish-spec =
-    tie.close (tie.spec (λ c κs. search needs) put-report-requires (λ c. search needs) returns returns-2)
+finish-spec = tie.close (tie.spec (λ c κs. search needs) put-report-requires (λ c. search needs) returns returns-2)

@@ -15,11 +15,7 @@ within length from n h = go (leb n (length - from)) refl
     go true e = e ∙ sym (le-leb (from + n) length (omega (arith, leb-true n (length - from) e)))
     go false e = e ∙ sym (lt-leb (from + n) length (omega (arith, leb-false n (length - from) e)))
 
-returns : tie.Need-returns
-returns c = let a = c .before .args in sym (lt-leb (a .from + a .n) (a .length) (omega (arith, c .if1 .taken)))
-
-returns-2 : tie.Need-returns-2
-returns-2 c = let a = c .before .args in within (a .length) (a .from) (a .n) (omega (arith, c .if1 .left))
-
 pub has-room-spec : {M : Type 1} → statement M
-has-room-spec = tie.close (tie.spec returns returns-2)
+has-room-spec = tie.close
+    (tie.spec (λ c. let a = c .before .args in sym (lt-leb (a .from + a .n) (a .length) (omega (arith, c .if1 .taken))))
+    (λ c. let a = c .before .args in within (a .length) (a .from) (a .n) (omega (arith, c .if1 .left))))

@@ -7,15 +7,10 @@ use Rattle.jobs.proofs.step.mend_block.Tie as tie
 returns : tie.Need-returns
 returns c =
     let a = c .before .before .before .before .before .before .before .before .before .before .before .before .before .before .args in
-    mended-block (a .version) (a .«record») (a .head) (a .pixels .now) (a .next) (c .before .before .before .before .before .before .before .before .salvage .ensures) (c .before .before .write-record .ensures)
+    mended-block (a .version) (a .«record») (a .head) (a .pixels .now) (a .next)
+    (c .before .before .before .before .before .before .before .before .salvage .ensures) (c .before .before .write-record .ensures)
 
 pub mend-block-spec : {M : Type 1} → statement M
 mend-block-spec =
-    tie.close
-    (tie.spec
-    (λ c κs. search needs)
-    (λ c κs. search needs)
-    (λ c. search needs)
-    (λ c. search needs)
-    (λ c. search needs)
-    returns)
+    tie.close (tie.spec (λ c κs. search needs) (λ c κs. search needs) (λ c. search needs) (λ c. search needs)
+    (λ c. search needs) returns)

@@ -4,19 +4,11 @@ use borrow.Author.Needs.{needs}
 use Rattle.whole.specs.Checks.{accept, then}
 use Rattle.levels.specs.declared.TypeCheck.{TypeCheck}
 use Rattle.levels.specs.declared.TypeCheck.the-variants.{Kinds, NoKinds}
-use Rattle.levels.specs.Plans.{shift-check, shift-of, kinds-check, kinds-of, with-kinds, with-shift, plan}
+use Rattle.levels.specs.Plans.{shift-of, kinds-of, with-kinds, with-shift, plan}
+use Rattle.levels.specs.Inner.{shift-check, kinds-check}
 use Rattle.levels.proofs.Sizes.{side-bounds, shift-sided, plan-by}
 use Rattle.levels.proofs.Plan.of.Statement.{statement}
 use Rattle.levels.proofs.Plan.of.Tie as tie
-
-size-shift-requires : tie.Need-size-shift-requires
-size-shift-requires c κs = search needs
-
-enum-known-shift : tie.Need-enum-known-shift
-enum-known-shift c = search needs
-
-enum-told : tie.Need-enum-told
-enum-told c = search needs
 
 returns : tie.Need-returns
 returns c =
@@ -45,22 +37,16 @@ module _ (c : tie.After-known-told) where
 
 type-kinds-requires : tie.Need-type-kinds-requires
 type-kinds-requires c κs =
-    let s = shift-sided (w c) (h c) (shift c) (shift-is c) in
-    (side-bounds (w c) (s .0) .1, side-bounds (h c) (s .1) .1)
-
-enum-known-rows : tie.Need-enum-known-rows
-enum-known-rows c = search needs
-
-enum-told-2 : tie.Need-enum-told-2
-enum-told-2 c = search needs
+    let s = shift-sided (w c) (h c) (shift c) (shift-is c) in (side-bounds (w c) (s .0) .1, side-bounds (h c) (s .1) .1)
 
 returns-2 : tie.Need-returns-2
 returns-2 c = decided (c .before .before .before) NoKinds (ap kinds-check (sym (c .enum-told2 .given .1)) ∙ c .before .before .type-kinds .ensures)
 
 returns-3 : tie.Need-returns-3
 returns-3 c =
-    let f = c .before .rows .given in
-    decided (c .before .before .before .before) (Kinds (f .0 .0) (f .0 .1 .0)) (ap kinds-check (sym (f .1)) ∙ c .before .before .before .type-kinds .ensures)
+    let f = c .before .rows .given in decided (c .before .before .before .before) (Kinds (f .0 .0) (f .0 .1 .0))
+    (ap kinds-check (sym (f .1)) ∙ c .before .before .before .type-kinds .ensures)
 
 pub of-spec : {M : Type 1} → statement M
-of-spec = tie.close (tie.spec size-shift-requires enum-known-shift enum-told returns type-kinds-requires enum-known-rows enum-told-2 returns-2 returns-3)
+of-spec = tie.close (tie.spec (λ c κs. search needs) (λ c. search needs) (λ c. search needs) returns type-kinds-requires
+    (λ c. search needs) (λ c. search needs) returns-2 returns-3)

@@ -24,9 +24,6 @@ outside s = rows-outside (s .args .size) (s .args .offset) (s .args .self .0) (s
 by-test : (s : tie.Start) {t : Bool} → outside s ≡ t → unless {A = Unit {0}} t 8 (accept tt) ≡ unless (outside s) 8 (accept tt)
 by-test s e = ap (λ (t : Bool). unless t 8 (accept tt)) (sym e)
 
-returns : tie.Need-returns
-returns c = search needs
-
 returns-2 : tie.Need-returns-2
 returns-2 c =
     let s = c .before .before .before in
@@ -36,9 +33,6 @@ returns-3 : tie.Need-returns-3
 returns-3 c =
     let s = c .before .before .before .before in
     by-test s (one-beyond (s .args .size) (s .args .offset) (s .args .self .0) (s .args .w) (s .args .h) 0 (omega arith) (omega arith))
-
-distance-requires : tie.Need-distance-requires
-distance-requires c κs = search needs
 
 -- the stride, its size, and that the first row is inside
 module _ (c : tie.After-distance) where
@@ -62,31 +56,20 @@ module _ (c : tie.After-distance) where
 
 returns-4 : tie.Need-returns-4
 returns-4 c =
-    let d = c .before in
-    let a = s d .args in
-    let none : natAbs (stride d) ≡ 0 = sym (step-is d) ∙ c .if4 .taken in
-    by-test (s d)
-    (room-enough (a .size) (a .offset) (stride d) (a .w) (a .h) (a .offset) (first-in d) (some-rows d)
+    let d = c .before in let a = s d .args in let none : natAbs (stride d) ≡ 0 = sym (step-is d) ∙ c .if4 .taken in
+    by-test (s d) (room-enough (a .size) (a .offset) (stride d) (a .w) (a .h) (a .offset) (first-in d) (some-rows d)
     (inl (omega (arith, abs-parts (stride d)), refl)) (omega (arith, ap (λ (n : ℕ). (a .h - 1) * n) none)))
-
-sub-room : tie.Need-sub-room
-sub-room c = search needs
-
-div-if6 : tie.Need-div-if6
-div-if6 c = search needs
-
-sub-if6 : tie.Need-sub-if6
-sub-if6 c = search needs
 
 -- the room on the side to which the rows move
 module _ (c : tie.Joined5) where
   abbrev d : tie.After-distance
   d = c .before .before
 
-  side : ((pp (stride d) ≡ 0) × (c .if5 .room ≡ s d .args .offset)) ⊎ ((nn (stride d) ≡ 0) × (c .if5 .room ≡ s d .args .size - s d .args .w - s d .args .offset))
+  side : ((pp (stride d) ≡ 0) × (c .if5 .room ≡ s d .args .offset))
+      ⊎ ((nn (stride d) ≡ 0) × (c .if5 .room ≡ s d .args .size - s d .args .w - s d .args .offset))
   side =
-      ⊎-elim (λ e. inl (below-zero (stride d) (sign-is (stride d) (fits d) (e .0 .taken)), e .1)) (λ e. inr (nonnegative (stride d) (sign-is (stride d) (fits d) (e .0 .left)), e .1))
-      (c .if5 .came)
+      ⊎-elim (λ e. inl (below-zero (stride d) (sign-is (stride d) (fits d) (e .0 .taken)), e .1))
+      (λ e. inr (nonnegative (stride d) (sign-is (stride d) (fits d) (e .0 .left)), e .1)) (c .if5 .came)
 
   -- the test of the quotient is a test of the product
   step-pos : 0 < d .distance .result
@@ -97,19 +80,16 @@ module _ (c : tie.Joined5) where
 
 returns-5 : tie.Need-returns-5
 returns-5 c =
-    let j = c .before .before in
-    let a = s (d j) .args in
-    by-test (s (d j))
+    let j = c .before .before in let a = s (d j) .args in by-test (s (d j))
     (room-short (a .size) (a .offset) (stride (d j)) (a .w) (a .h) (j .if5 .room) (first-in (d j)) (some-rows (d j)) (side j)
     (omega (arith, div-lt-iff-lt-mul (step-pos j) .0 (c .if6 .taken), by-step j (a .h - 1))))
 
 returns-6 : tie.Need-returns-6
 returns-6 c =
-    let j = c .before .before in
-    let a = s (d j) .args in
-    by-test (s (d j))
+    let j = c .before .before in let a = s (d j) .args in by-test (s (d j))
     (room-enough (a .size) (a .offset) (stride (d j)) (a .w) (a .h) (j .if5 .room) (first-in (d j)) (some-rows (d j)) (side j)
     (omega (arith, le-div-iff-mul-le (step-pos j) .0 (c .if6 .left), by-step j (a .h - 1))))
 
 pub rows-spec : {M : Type 1} → statement M
-rows-spec = tie.close (tie.spec returns returns-2 returns-3 distance-requires returns-4 sub-room div-if6 sub-if6 returns-5 returns-6)
+rows-spec = tie.close (tie.spec (λ c. search needs) returns-2 returns-3 (λ c κs. search needs) returns-4 (λ c. search needs)
+    (λ c. search needs) (λ c. search needs) returns-5 returns-6)

@@ -1,0 +1,97 @@
+-- What the loops find at a row of a block, and at a pixel of a row: in 16 bits and in 8.
+use mathlib.Core.Path.{_≡_, ap, _∙_, subst⁻¹}
+use mathlib.Core.Bool.{false}
+use mathlib.Core.List.{List}
+use Prim.Native.Nat.{ℕ, _+_, _*_, _≤_, _<_}
+use native.Mathlib.Omega.{arith}
+use lib.Dec.{T}
+use lib.IntN.{ℤ, natAbs}
+use lib.ListN.{getD, set, length}
+use lib.Signed.{nonNeg}
+use mir.Syntax.{w32, w64}
+use mir.Val.{Fits, SFits}
+use mir.ValLaws.{toZ-ofZ}
+use Rattle.whole.proofs.Parts.{nn}
+use Rattle.levels.specs.declared.Kind.{Kind}
+use Rattle.strided.specs.declared.Spot.{Spot}
+use Rattle.strided.specs.Planes.{starts, begins, spot-outside}
+use Rattle.strided.proofs.Casts.{read, to-usize}
+use Rattle.strided.proofs.Rows.{row-here}
+use Rattle.pixels.specs.Adds.{add-pixel, add-row}
+use Rattle.pixels.specs.Inner.{left, RowAdds, Adding}
+use Rattle.pixels.proofs.Pixels.{left-small, RowTo, row-long, row-next, RowsTo, rows-long, rows-next}
+
+-- ---- a row
+
+-- row y of a block in a slice of `size` pixels; a local holds its start, z
+pub record Row (spot : Spot) (size y : ℕ) (z : ℤ) : Type 0 where
+  pub low : y ≤ 32
+  pub is : read w64 z ≡ starts (spot .offset) (spot .stride .0) y
+  above : nn (starts (spot .offset) (spot .stride .0) y) ≡ 0
+  pub within : begins spot y + spot .columns ≤ size
+
+pub found-row : (spot : Spot) (size y : ℕ) {z : ℤ} → spot .rows ≤ 32 → spot-outside size spot ≡ false → y < spot .rows
+    → SFits w64 z → z ≡ starts (spot .offset) (spot .stride .0) y → Row spot size y z
+found-row spot size y {z} h o l f e =
+    let r = row-here size spot o y l in record { low = omega arith; is = toZ-ofZ w64 z f ∙ e; above = r .0; within = r .1 }
+
+module _ {spot : Spot} {size y : ℕ} {z : ℤ} (r : Row spot size y z) where
+  pub place : natAbs (read w64 z) ≡ begins spot y
+  place = ap natAbs (r .is)
+
+  -- what a cast of the start asks
+  pub counted : size < 18446744073709551616 → T (nonNeg (read w64 z)) × Fits w64 (natAbs (read w64 z))
+  counted g = to-usize _ _ (r .is) (r .above) (omega (arith, r .within))
+
+  -- the slice is still as long
+  pub in-slice : {now : ℕ} → now ≡ size → natAbs (read w64 z) + spot .columns ≤ now
+  in-slice e = omega (arith, place, r .within)
+
+-- a turn of a loop that adds a row a turn
+pub record Turn (top : ℕ) (ps : List ℕ) (spot : Spot) (v : ℕ → ℕ → ℤ) (y : ℕ) (now : List ℕ) (z : ℤ) : Type 0 where
+  to : RowsTo top ps (begins spot) v (spot .columns) (spot .rows) y now
+  pub more : y < spot .rows
+  pub row : Row spot (length ps) y z
+
+pub turned : {top : ℕ} {ps : List ℕ} {spot : Spot} {v : ℕ → ℕ → ℤ} {y : ℕ} {now : List ℕ} {z : ℤ}
+    → RowsTo top ps (begins spot) v (spot .columns) (spot .rows) y now → y < spot .rows → spot .rows ≤ 32 → spot-outside (length ps) spot ≡ false
+    → SFits w64 z → z ≡ starts (spot .offset) (spot .stride .0) y → Turn top ps spot v y now z
+turned {ps = ps} {spot} {y = y} t l h o f e = record { to = t; more = l; row = found-row spot (length ps) y h o l f e }
+
+module _ {top : ℕ} {ps : List ℕ} {spot : Spot} {v : ℕ → ℕ → ℤ} {y : ℕ} {now : List ℕ} {z : ℤ} (t : Turn top ps spot v y now z) where
+  pub room : natAbs (read w64 z) + spot .columns ≤ length now
+  room = in-slice (t .row) (rows-long (t .to))
+
+  pub adds : {step : ℕ} {ns : List ℤ} → Adding spot step ps ns → RowAdds (natAbs (read w64 z)) (y * step) (spot .columns) now ns
+  adds a = record { pixels = room; numbers = a .numbers y (t .more) }
+
+  pub next : {after : List ℕ} → after ≡ add-row top now (natAbs (read w64 z)) (v y) (spot .columns)
+      → RowsTo top ps (begins spot) v (spot .columns) (spot .rows) (y + 1) after
+  next e = rows-next (t .to) (t .more) (place (t .row)) e
+
+-- ---- a pixel
+
+-- a turn of a loop that adds to a pixel a turn: its place is in the slice, as that was and as it is
+pub record Here (top : ℕ) (ps : List ℕ) (from : ℕ) (v : ℕ → ℤ) (w x : ℕ) (now : List ℕ) : Type 0 where
+  to : RowTo top ps from v w x now
+  more : x < w
+  pub first : from + x < length ps
+  pub still : from + x < length now
+
+module _ {top : ℕ} {ps : List ℕ} {from : ℕ} {v : ℕ → ℤ} {w x : ℕ} {now : List ℕ} where
+  pub here : RowTo top ps from v w x now → x < w → from + w ≤ length ps → Here top ps from v w x now
+  here t l f = record { to = t; more = l; first = omega arith; still = omega (arith, row-long t) }
+
+  pub onward : Here top ps from v w x now → {q : ℕ} {z : ℤ} → z ≡ v x → q ≡ add-pixel top (getD now (from + x) 0) z
+      → RowTo top ps from v w (x + 1) (set now (from + x) q)
+  onward h e f = row-next (h .to) (h .more) e f
+
+-- a number as a local holds it
+pub held-small : (v : ℤ) {n : ℕ} → SFits w32 v → natAbs v ≤ n → natAbs (read w32 v) ≤ n
+held-small v {n} f l = subst⁻¹ (λ (z : ℤ). natAbs z ≤ n) (toZ-ofZ w32 v f) l
+
+pub held-left : (k : Kind) {r v : ℤ} → SFits w32 v → SFits w32 r → r ≡ left k (read w32 v) → read w32 r ≡ left k v
+held-left k {r} {v} f g e = toZ-ofZ w32 r g ∙ e ∙ ap (left k) (toZ-ofZ w32 v f)
+
+pub added-small : (k : Kind) (v : ℤ) {u : ℤ} → u ≡ left k v → natAbs v ≤ 16777216 → natAbs u ≤ 16777216
+added-small k v e l = subst⁻¹ (λ (z : ℤ). natAbs z ≤ 16777216) e (left-small k v l)
