@@ -18,7 +18,7 @@ use Rattle.whole.proofs.Counts.{first-none}
 use Rattle.levels.specs.declared.Kind.{Kind}
 use Rattle.levels.specs.declared.Kind.the-variants.{Wht}
 use Rattle.levels.specs.Manners.{is-wht, four-only}
-use Rattle.whole.specs.Answers.{acceptance}
+use Rattle.whole.specs.Answers.{Answer, acceptance}
 use Rattle.itx_1d.specs.Inner.{Lined}
 use Rattle.levels.proofs.Manners.{wht-alone}
 use Rattle.bitdepth.specs.declared.Depth.{Depth}
@@ -36,10 +36,10 @@ use Rattle.residual.specs.Inner.{Sized}
 use Rattle.residual.proofs.Ends.{row-reach, size}
 use Rattle.itx.specs.declared.Refusal.{Refusal}
 use Rattle.itx.specs.Calls.{Block, Call, plain, live, Outcome, Meets, verdict, outcome-of, short, live-rows, by-shortcut, by-passes}
-use Rattle.itx.specs.Demands.{Accepted}
+use Rattle.itx.specs.Accepted.{Accepted}
 use Rattle.itx.specs.Answers.{number, place}
 use Rattle.itx.specs.Inner.{added, left, Ready, Suits, Passed, Shortened}
-use Rattle.itx.proofs.Sameness.{rows-all, sides, live-inside}
+use Rattle.itx.proofs.Covering.{rows-all, sides, live-inside}
 use Rattle.itx.proofs.Verdicts.{accepting}
 
 -- ---- a plan's kinds fit its sides
@@ -117,6 +117,10 @@ sized w h type p e =
 pub suits-inside : (call : Call) (b : Block) (p : Plan) (d : Depth) → Accepted call b p d → {r : ℕ} → Suits call p (b .coefs) r → r ≤ p .h
 suits-inside (plain eob) b p d a u = u .0
 suits-inside (live n) b p d a u = subst⁻¹ (λ (r : ℕ). r ≤ p .h) u (live-inside (live n) b p d a)
+
+-- what meets an outcome meets an equal one
+pub met : {o o′ : Outcome} {a : Answer} {ps : List ℕ} {cs : List ℤ} → o ≡ o′ → Meets o a ps cs → Meets o′ a ps cs
+met {a = a} {ps = ps} {cs = cs} = subst (λ (o : Outcome). Meets o a ps cs)
 
 -- ---- a block as a call is given it
 

@@ -14,7 +14,7 @@ use Rattle.itx.specs.declared.Verdict.{Verdict}
 use Rattle.itx.specs.declared.Verdict.the-variants.{Go, At, Stop}
 use Rattle.itx.specs.Calls.{Call, lengths-lines, with-depth}
 use Rattle.itx.specs.Inner.{verdict-of, Lies, Enough, RowsIn, Roomy}
-use Rattle.itx.proofs.Sameness.{rows-inside}
+use Rattle.itx.proofs.Covering.{rows-inside}
 use Rattle.itx.proofs.Verdicts.{planned-at}
 
 pub granted : (known : Check (Plan × Depth)) (call : Call) (count : ℕ) (k : Width) (size : ℕ) (v : View) (t : Spot) (x : Verdict) → Lies t x

@@ -15,7 +15,7 @@ use Rattle.residual.specs.Blocks.{way-by}
 use Rattle.residual.specs.Inner.{Coefs, ResolvedIn, wht-plan}
 use Rattle.itx.specs.Calls.{Call, plain, live}
 use Rattle.itx.specs.Inner.{Suits, Widened}
-use Rattle.itx.proofs.Influence.{column-alike, marked-alike}
+use Rattle.itx.proofs.Alike.{column-alike, marked-alike}
 
 module _ {p : Plan} {c t : List ℤ} (k : Widened p c t) where
   back : (i : ℕ) → i < p .w * p .h → at t i ≡ at c i

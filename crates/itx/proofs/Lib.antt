@@ -1,21 +1,13 @@
--- What is proved of the two-dimensional transform.
+-- What the proofs of the code rest on.
 pub mod Verdicts
 pub mod Numbers
 pub mod LiveRows
-pub mod Sameness
-pub mod Table
-pub mod Outcomes
-pub mod Shortcut
-pub mod Demand3
-pub mod Av1Same
-pub mod Influence
-pub mod Visible
-pub mod Known
+pub mod Covering
+pub mod Alike
+pub mod Narrow
 pub mod Opening
 pub mod Chain
 pub mod Painting
 pub mod Accepted
-pub mod Unique
-pub mod Second
-pub mod Widths
+pub mod Engines
 pub mod Copies

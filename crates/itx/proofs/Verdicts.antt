@@ -10,7 +10,7 @@ use Rattle.levels.specs.declared.Plan.{Plan}
 use Rattle.levels.specs.Plans.{among, shift-0, shift-1, shift-2, with-kinds, with-shift, plan}
 use Rattle.levels.proofs.Types.{by-types}
 use Rattle.itx.specs.Calls.{Block, Call, with-depth, table, verdict}
-use Rattle.itx.specs.Demands.{Accepted}
+use Rattle.itx.specs.Accepted.{Accepted}
 
 -- a plan is refused by 1 or by 2
 pub by-plan : (F : Check Plan → Type 0) (w h type : ℕ) → F (refuse 1 0) → F (refuse 2 0) → ((p : Plan) → F (accept p)) → F (plan w h type)

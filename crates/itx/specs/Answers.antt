@@ -8,8 +8,8 @@ use Rattle.itx.specs.Calls.{Block}
 use Rattle.itx.specs.declared.Answer.{Answer}
 use Rattle.itx.specs.declared.Answer.the-variants.{Done, Refused}
 use Rattle.itx.specs.declared.Refusal.{Refusal}
-use Rattle.itx.specs.declared.Refusal.the-variants.{NoSize, NoType, NoDepth, NegativeEob, NoSuchRows, FewCoefficients, NotVisible}
-use Rattle.itx.specs.declared.Refusal.the-variants.{BadStride, RowOutside, OutOfRange, Stray, AboveMaximum}
+use Rattle.itx.specs.declared.Refusal.the-variants.{NoSize, NoType, NoDepth, NegativeEob, NoSuchRows, FewCoefficients, NotVisible, BadStride}
+use Rattle.itx.specs.declared.Refusal.the-variants.{RowOutside, OutOfRange, Stray, AboveMaximum}
 
 -- the table of "Numbers of refusal": the number, and the place: "9 and 10 carry the place of the first offender .. others carry 0"; so does
 -- 21 (E6)

@@ -19,7 +19,6 @@ use Rattle.coefs.specs.Inner.{Alike}
 use Rattle.residual.specs.declared.Engine.{Engine}
 use Rattle.residual.specs.Blocks.{way-by, residual, marked, shortcut}
 use Rattle.residual.specs.Inner.{Sized, Coefs, Served}
-use Rattle.whole.specs.Answers as Whole
 use Rattle.itx.specs.Calls.{Block, Call, Outcome, plain, live, with-adst, short, live-rows, verdict, outcome-of}
 use Rattle.itx.specs.declared.Hint.{Hint}
 use Rattle.itx.specs.declared.Hint.the-variants.{Eob, LiveRows}

@@ -12,13 +12,13 @@ use lib.ListN.{length, getD}
 use mir.Syntax.{w32}
 use mir.Val.{SFits}
 use Rattle.whole.specs.Lists.{at}
-use Rattle.itx.proofs.Outcomes.{coefs-each, coefs-length, pixels-most, pixels-length}
+use Rattle.demands.proofs.Outcomes.{coefs-each, coefs-length, pixels-most, pixels-length}
 use Rattle.blockfile.specs.Read.{Read, got, refused}
 use Rattle.blockfile.specs.Form.{number, write-each, Each}
 use Rattle.blockfile.specs.Record.{Block, area, count, form, Plain}
 use Rattle.blockfile.specs.declared.record.Head.{Head}
-use Rattle.blockfile.specs.File.{Records, all, before, after, records, File, unknown, file, first, opened, read-file, write-file}
-use Rattle.blockfile.specs.File.{known, read-blocks, write-blocks}
+use Rattle.blockfile.specs.File.{Records, all, before, after, records, File, unknown, file, first, opened, read-file, write-file, known}
+use Rattle.blockfile.specs.File.{read-blocks, write-blocks}
 use Rattle.blockfile.proofs.Forms.{each-map, each-length}
 use Rattle.blockfile.proofs.Records.{form-lawful, some-form, plain}
 use Rattle.blockfile.proofs.Files.{records-stop, first-lawful, blocks-back, blocks-only}

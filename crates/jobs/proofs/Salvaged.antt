@@ -15,7 +15,7 @@ use mir.Syntax.{w32}
 use mir.Val.{SFits}
 use Rattle.whole.specs.Numbers.{clip, outside, low, high}
 use Rattle.whole.specs.Lists.{at}
-use Rattle.whole.specs.Checks.{Check, accept, refuse, then, unless-at, Line, when, judged}
+use Rattle.whole.specs.Checks.{Check, accept, refuse, then, unless-at, Line, when, judged, accepted}
 use Rattle.whole.proofs.Checks.{refuse≢accept, Clear}
 use Rattle.whole.proofs.Ranges.{zero-inside}
 use Rattle.whole.proofs.Counts.{tab-at, tab-length, none-first, map-length}
@@ -27,15 +27,14 @@ use Rattle.levels.specs.Plans.{plan, shift-of}
 use Rattle.levels.proofs.Sizes.{Planned, plan-of, plan-sided, side-bounds}
 use Rattle.coefs.specs.Coefs.{Covers}
 use Rattle.strided.specs.Planes.{bad-view, bad-stride, whole, lies}
-use Rattle.whole.specs.Checks.{accepted}
 use Rattle.strided.specs.declared.Width.the-variants.{Wide}
 use Rattle.pixels.proofs.Above.{no-above}
 use Rattle.itx.specs.Calls.{Call, lengths-lines, plain, live, bad-eob, bad-rows, stray, verdict, range-line, stray-line, table}
 use Rattle.itx.proofs.Verdicts.{then-same, planned-at}
-use Rattle.itx.proofs.Sameness.{strays-none}
-use Rattle.itx.proofs.Visible.{whole-spotted}
-use Rattle.itx.proofs.Widths.{left-out}
-use Rattle.itx.specs.Widths.{one-of}
+use Rattle.itx.proofs.Covering.{strays-none}
+use Rattle.demands.proofs.Visible.{whole-spotted}
+use Rattle.itx.proofs.Narrow.{left-out}
+use Rattle.demands.specs.Widths.{one-of}
 use Rattle.itx.proofs.Numbers.{num, answer-num, By, num-by, then-by, judged-by, depth-by, planned-by, early, late, passed, past-8}
 use Rattle.blockfile.specs.Form.{number, write-each, Each}
 use Rattle.blockfile.specs.Record.{Block, area, sized, count, Plain, form}

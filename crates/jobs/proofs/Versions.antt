@@ -17,7 +17,7 @@ use Rattle.whole.proofs.Counts.{tab-at, map-length}
 use Rattle.coefs.specs.Coefs.{Covers}
 use Rattle.itx.specs.Calls.{Outcome}
 use Rattle.itx.proofs.Numbers.{plain-never-10}
-use Rattle.itx.proofs.Demand3.{live-plain}
+use Rattle.demands.proofs.Demand3.{live-plain}
 use Rattle.blockfile.specs.Form.{Each}
 use Rattle.blockfile.specs.Record.{Block, count, Plain}
 use Rattle.blockfile.specs.File.{Records, all, before, after}

@@ -29,8 +29,9 @@ use Rattle.pixels.specs.Adds.{add-pixel}
 use Rattle.itx_1d.specs.Passes.{pass}
 use Rattle.whole.specs.Answers.{Answer, acceptance}
 use Rattle.itx.specs.Calls.{Block, plain, outcome, short}
-use Rattle.itx.specs.Demands.{Accepted, addend}
-use Rattle.itx.proofs.Outcomes.{answer-is, pixel-rule}
+use Rattle.itx.specs.Accepted.{Accepted}
+use Rattle.demands.specs.Demands.{addend}
+use Rattle.demands.proofs.Outcomes.{answer-is, pixel-rule}
 use Rattle.lossless.specs.declared.Written.the-variants.{Done}
 use Rattle.lossless.specs.Writes.{coefficient, coefficients, out-of-bounds, checks, left, written, sent, Meets}
 use Rattle.lossless.proofs.Exact.{of-four-ext, residual-is, middle-is, comes-back, multiple-of-four, in-row-range}

@@ -4,8 +4,7 @@ use borrow.Author.Needs.{needs}
 use Rattle.whole.specs.Checks.{Check, then}
 use Rattle.levels.specs.declared.Decision.{Decision}
 use Rattle.levels.specs.declared.Plan.{Plan}
-use Rattle.levels.specs.Plans.{plan}
-use Rattle.levels.specs.Plans.{decision-of}
+use Rattle.levels.specs.Plans.{plan, decision-of}
 use Rattle.levels.proofs.Sizes.{side-bounds, plan-sided}
 use Rattle.itx.specs.Calls.{with-depth}
 use Rattle.itx.proofs.check_kind.Statement.{statement}

@@ -11,7 +11,7 @@ use Rattle.levels.specs.declared.Plan.{Plan}
 use Rattle.itx.specs.Inner.{verdict-of, Enough}
 use Rattle.itx.specs.Calls.{range-line}
 use Rattle.itx.proofs.Opening.{halted, decides}
-use Rattle.itx.proofs.Widths.{range-none}
+use Rattle.itx.proofs.Narrow.{range-none}
 use Rattle.itx.proofs.check_range_8bpc.Statement.{statement}
 use Rattle.itx.proofs.check_range_8bpc.Tie as tie
 

@@ -14,7 +14,7 @@ use Rattle.levels.specs.declared.Plan.{Plan}
 use Rattle.itx.specs.declared.Verdict.{Verdict}
 use Rattle.itx.specs.Inner.{verdict-of, call-of, Enough, RowsIn, Handed, Widened, Copied}
 use Rattle.itx.specs.Calls.{Call, plain, live, short, stray, stray-line}
-use Rattle.itx.proofs.Influence.{stray-alike}
+use Rattle.itx.proofs.Alike.{stray-alike}
 use Rattle.itx.proofs.Opening.{opened, decides, halted, elsewhere, handed-on}
 use Rattle.itx.proofs.check_stray_8bpc.Statement.{statement}
 use Rattle.itx.proofs.check_stray_8bpc.Tie as tie

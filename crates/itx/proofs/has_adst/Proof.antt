@@ -3,8 +3,7 @@ use mathlib.Core.Path.{_≡_, sym, ap, _∙_}
 use mathlib.Core.Bool.{_||_}
 use borrow.Author.Needs.{needs}
 use Rattle.levels.specs.declared.Decision.{Decision}
-use Rattle.levels.specs.Plans.{plan}
-use Rattle.levels.specs.Plans.{decision-of}
+use Rattle.levels.specs.Plans.{plan, decision-of}
 use Rattle.itx.specs.Inner.{adst-planned}
 use Rattle.itx.proofs.has_adst.Statement.{statement}
 use Rattle.itx.proofs.has_adst.Tie as tie

@@ -6,7 +6,7 @@ use borrow.Author.Needs.{needs}
 use Rattle.strided.specs.Planes.{lent}
 use Rattle.itx.specs.Calls.{Block, plain}
 use Rattle.itx.specs.Answers.{block}
-use Rattle.itx.proofs.Second.{allowed-first, first-meets}
+use Rattle.itx.proofs.Engines.{allowed-first, first-meets}
 use Rattle.itx.proofs.inv_txfm_add.Statement.{statement}
 use Rattle.itx.proofs.inv_txfm_add.Tie as tie
 

@@ -7,7 +7,7 @@ use Rattle.levels.specs.Plans.{plan}
 use Rattle.itx.specs.Calls.{Block, live}
 use Rattle.itx.specs.Answers.{block}
 use Rattle.itx.specs.Inner.{adst-planned}
-use Rattle.itx.proofs.Second.{allowed-spec, spec-meets, spec-refused}
+use Rattle.itx.proofs.Engines.{allowed-spec, spec-meets, spec-refused}
 use Rattle.itx.proofs.spec_inv_txfm_add_live.Statement.{statement}
 use Rattle.itx.proofs.spec_inv_txfm_add_live.Tie as tie
 

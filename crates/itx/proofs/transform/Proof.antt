@@ -10,9 +10,9 @@ use Rattle.itx.specs.Calls.{Block, Call, short}
 use Rattle.itx.specs.Answers.{block}
 use Rattle.itx.specs.Inner.{verdict-of, call-of, Lies, Ready}
 use Rattle.residual.specs.Inner.{Served}
-use Rattle.itx.specs.Demands as Demands
+use Rattle.itx.specs.Accepted as Accepts
 use Rattle.itx.proofs.Accepted as Accepted
-use Rattle.itx.proofs.Sameness.{h-positive}
+use Rattle.itx.proofs.Covering.{h-positive}
 use Rattle.itx.proofs.Verdicts.{accepted-by}
 use Rattle.itx.proofs.transform.Statement.{statement}
 use Rattle.itx.proofs.transform.Tie as tie
@@ -37,7 +37,7 @@ module _ (k : tie.After-checked2) where
   abbrev d : Depth
   d = k .checked2 .given .0 .1 .0
 
-  accepted : Demands.Accepted (call begun) (given begun) p d
+  accepted : Accepts.Accepted (call begun) (given begun) p d
   accepted = accepted-by (call begun) (given begun) p d (sym (checked .check .ensures .0) ∙ ap verdict-of (k .checked2 .given .1))
 
   turned : k .checked2 .given .0 .1 .1 .0 ≡ spot Wide (begun .args .view)

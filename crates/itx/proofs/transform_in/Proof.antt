@@ -21,15 +21,15 @@ use Rattle.itx.specs.declared.Verdict.the-variants.{Stop}
 use Rattle.itx.specs.Calls.{Block, Call, lengths-lines, range-line, stray-line, pixel-line, with-depth, short, verdict}
 use Rattle.itx.specs.Answers.{block}
 use Rattle.itx.specs.Inner.{verdict-of, call-of, Lies, Enough, RowsIn, Widened, Copied, Ready}
-use Rattle.itx.specs.Demands as Demands
+use Rattle.itx.specs.Accepted as Accepts
 use Rattle.itx.proofs.Accepted as Accepted
 use Rattle.itx.proofs.Chain.{roomy}
 use Rattle.itx.proofs.Copies.{suits-copy}
 use Rattle.itx.proofs.Opening.{handed-on}
-use Rattle.itx.proofs.Sameness.{h-positive}
-use Rattle.itx.proofs.Second.{first-meets}
+use Rattle.itx.proofs.Covering.{h-positive}
+use Rattle.itx.proofs.Engines.{first-meets}
 use Rattle.itx.proofs.Verdicts.{accepted-by}
-use Rattle.itx.proofs.Widths.{unasked, above-none}
+use Rattle.itx.proofs.Narrow.{unasked, above-none}
 use Rattle.itx.proofs.transform_in.Statement.{statement}
 use Rattle.itx.proofs.transform_in.Tie as tie
 
@@ -96,10 +96,10 @@ module _ (k : tie.After-checked2) where
   abbrev p : Plan
   p = k .checked2 .given .0 .0
 
-  accepted : Demands.Accepted (call s) (given s) p Eight
+  accepted : Accepts.Accepted (call s) (given s) p Eight
   accepted =
       let a = accepted-by (call s) (given s) p (k .checked2 .given .0 .1 .0) (checked sought ∙ ap verdict-of (k .checked2 .given .1)) in
-      subst (λ (d : Depth). Demands.Accepted (call s) (given s) p d) (sym (same-accept Eight _ (a .deep))) a
+      subst (λ (d : Depth). Accepts.Accepted (call s) (given s) p d) (sym (same-accept Eight _ (a .deep))) a
 
   turned : k .checked2 .given .0 .1 .1 .0 ≡ place s
   turned = subst (Lies (place s)) (k .checked2 .given .1) (lies sought)

@@ -1,10 +1,8 @@
 -- What the statements on the two calls speak of: an accepted call, the long way over all rows, and what demand 3 lets be announced.
 use mathlib.Core.Path.{_≡_}
 use mathlib.Core.Bool.{false, cond}
-use mathlib.Core.Option.{none}
 use mathlib.Core.List.{List}
 use Prim.Native.Nat.{ℕ, suc, _*_, _%_, _≤_, _<_}
-use lib.Dec.{ltb}
 use lib.IntN.{ℤ, pos, natAbs}
 use lib.ListN.{getD, length}
 use lib.Signed.{_≤ℤ_}
@@ -18,22 +16,9 @@ use Rattle.levels.specs.Plans.{plan}
 use Rattle.coefs.specs.Coefs.{Covers}
 use Rattle.strided.specs.declared.Width.{Width}
 use Rattle.strided.specs.declared.Width.the-variants.{Wide, Narrow}
-use Rattle.strided.specs.Planes.{Spotted, lies, in-pixels, row-start, place}
-use Rattle.pixels.specs.Above.{first-above}
+use Rattle.strided.specs.Planes.{in-pixels, row-start, place}
 use Rattle.residual.specs.Blocks.{way, residual, shortcut}
-use Rattle.itx.specs.Calls.{Block, Call, plain, live, bad-eob, bad-rows, out-of-range, stray, Outcome, short, live-rows, by-passes}
-
--- none of the numbers 1 to 10, 20 and 21 holds
-pub record Accepted (call : Call) (b : Block) (p : Plan) (d : Depth) : Type 0 where
-  pub planned : plan (b .w) (b .h) (b .type) ≡ accept p
-  pub deep : depth (b .depth) ≡ accept d
-  pub eob : bad-eob call ≡ false
-  pub rows : bad-rows call (p .h) ≡ false
-  pub enough : ltb (length (b .coefs)) (p .w * p .h) ≡ false
-  pub placed : Spotted (b .plane .width) (length (b .plane .pixels)) (p .w) (p .h) (b .plane .view)
-  pub ranged : out-of-range (p, d) (b .coefs) ≡ none
-  pub covered : stray call p (b .coefs) ≡ none
-  pub sound : first-above (maximum d) (b .plane .pixels) (lies (b .plane)) (p .w) ≡ none
+use Rattle.itx.specs.Calls.{Block, Call, plain, live, Outcome, short, live-rows, by-passes}
 
 -- numbers 4, 5 and 10 do not hold: "eob negative"; "r not in 1..h", "nonzero coefficient in a row r or later"
 abbrev pub Announces : Call → Plan → List ℤ → Type 0

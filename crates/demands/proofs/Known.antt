@@ -6,8 +6,8 @@ use Rattle.itx_1d.specs.Passes as Passes
 use Rattle.itx_1d.specs.Calls as Calls
 use Rattle.residual.specs.Blocks as Blocks
 use Rattle.pixels.specs.Adds as Adds
 use Rattle.itx.specs.Calls.{outcome}
-use Rattle.itx.specs.Known.{Case, Result, computed, expected, holds, All, cases}
+use Rattle.demands.specs.Known.{Case, Result, computed, expected, holds, All, cases}
 
 -- to unfold these is to unfold all that their lines name
 passing : Unit {0}

@@ -6,14 +6,17 @@ use Prim.Native.Nat.{ℕ}
 use lib.Dec.{eqb}
 use lib.IntN.{ℤ}
 use Rattle.whole.specs.Answers as Answers
 use Rattle.itx.specs.declared.Answer.{Answer}
 use Rattle.itx.specs.declared.Answer.the-variants.{Done, Refused}
 use Rattle.itx.specs.declared.Refusal.{Refusal}
-use Rattle.itx.specs.declared.Refusal.the-variants.{NoSize, NoType, NoDepth, NegativeEob, NoSuchRows, FewCoefficients, NotVisible}
-use Rattle.itx.specs.declared.Refusal.the-variants.{BadStride, RowOutside, OutOfRange, Stray, AboveMaximum}
+use Rattle.itx.specs.declared.Refusal.the-variants.{NoSize, NoType, NoDepth, NegativeEob, NoSuchRows, FewCoefficients, NotVisible, BadStride}
+use Rattle.itx.specs.declared.Refusal.the-variants.{RowOutside, OutOfRange, Stray, AboveMaximum}
 use Rattle.itx.specs.Answers.{number, place, answer-of}
 use Rattle.itx.specs.Calls.{Outcome, Meets}
-use Rattle.itx.proofs.Outcomes.{one-outcome}
+
+pub one-outcome : {o : Outcome} {a a′ : Answers.Answer} {ps ps′ : List ℕ} {cs cs′ : List ℤ} → Meets o a ps cs → Meets o a′ ps′ cs′
+    → (a ≡ a′) × (ps ≡ ps′) × (cs ≡ cs′)
+one-outcome m n = (m .answer-is ∙ sym (n .answer-is), m .pixels-are ∙ sym (n .pixels-are), m .coefs-are ∙ sym (n .coefs-are))
 
 -- the refusal, and the answer, that the table's numbers stand for
 refusal : ℕ → ℕ → Refusal

@@ -1,6 +1,6 @@
 -- What an accepted call answers and leaves, place by place; a refusal leaves pixels and coefficients; what holds of all that any call leaves; and no
 -- second outcome meets a contract that says all three parts.
-use mathlib.Core.Path.{_≡_, refl, sym, ap, _∙_, subst}
+use mathlib.Core.Path.{_≡_, refl, ap, _∙_}
 use mathlib.Core.Logic.{_≢_}
 use mathlib.Core.Bool.{Bool, true, false, cond}
 use mathlib.Core.List.{List, [], _∷_, _++_}
@@ -14,7 +14,7 @@ use lib.Seq.{getD-set-other}
 use Rattle.whole.specs.Lists.{at}
 use Rattle.whole.specs.Checks.{Check, accept, refuse}
 use Rattle.whole.proofs.Clips.{clip-abs}
-use Rattle.whole.specs.Answers.{Answer, acceptance}
+use Rattle.whole.specs.Answers.{acceptance}
 use Rattle.bitdepth.specs.declared.Depth.{Depth}
 use Rattle.bitdepth.specs.declared.Depth.the-variants.{Eight, Ten, Twelve}
 use Rattle.bitdepth.specs.Depths.{maximum}
@@ -24,12 +24,14 @@ use Rattle.strided.specs.declared.View.{View}
 use Rattle.strided.proofs.Rows.{row-fits, rows-apart}
 use Rattle.residual.specs.Blocks.{residual, marked, way, shortcut}
 use Rattle.pixels.specs.Adds.{add-pixel, add-row, add-rows}
-use Rattle.itx.specs.Calls.{Block, Call, verdict, Outcome, short, live-rows, painted, by-shortcut, by-passes, outcome-of, outcome, Meets}
-use Rattle.itx.specs.Demands.{Accepted, addend}
+use Rattle.itx.specs.Calls.{Block, Call, verdict, Outcome, short, live-rows, painted, by-shortcut, by-passes, outcome-of, outcome}
+use Rattle.itx.specs.Accepted.{Accepted}
+use Rattle.demands.specs.Demands.{addend}
 use Rattle.pixels.proofs.Pixels.{rows-length, pixel-kept, pixel-set}
 use Rattle.itx.proofs.Numbers.{answered}
 use Rattle.itx.proofs.Verdicts.{accepted-by}
-use Rattle.itx.proofs.Sameness.{opened, area-positive}
+use Rattle.demands.proofs.Sameness.{opened}
+use Rattle.itx.proofs.Covering.{area-positive}
 
 -- ---- an accepted call
 
@@ -187,12 +189,3 @@ module _ (call : Call) (b : Block) where
     where
       on : (d : Depth) (v : ℕ → ℕ → ℤ) → length (painted (maximum d) (b .plane) v) ≡ length (b .plane .pixels)
       on d v = rows-length (maximum d) (b .plane .pixels) (begins (lies (b .plane))) v (b .plane .view .columns) (b .plane .view .rows)
-
--- ---- one outcome
-
-pub one-outcome : {o : Outcome} {a a′ : Answer} {ps ps′ : List ℕ} {cs cs′ : List ℤ} → Meets o a ps cs → Meets o a′ ps′ cs′
-    → (a ≡ a′) × (ps ≡ ps′) × (cs ≡ cs′)
-one-outcome m n = (m .answer-is ∙ sym (n .answer-is), m .pixels-are ∙ sym (n .pixels-are), m .coefs-are ∙ sym (n .coefs-are))
-
-pub met : {o o′ : Outcome} {a : Answer} {ps : List ℕ} {cs : List ℤ} → o ≡ o′ → Meets o a ps cs → Meets o′ a ps cs
-met {a = a} {ps = ps} {cs = cs} = subst (λ (o : Outcome). Meets o a ps cs)

@@ -1,19 +1,18 @@
 -- "Checked in this order; the first that applies is answered, and none otherwise": a call is accepted just when no number of the table holds,
 -- by the propositions of `NoNumber`.
-use mathlib.Core.Path.{_≡_, refl, sym, ap, ap₂, _∙_}
+use mathlib.Core.Path.{_≡_, refl, ap, ap₂, _∙_}
 use mathlib.Core.Bool.{Bool, true, false, not, cond, _&&_, _||_}
-use mathlib.Core.List.{List}
 use mathlib.Core.Option.{none}
-use Prim.Native.Nat.{ℕ, suc, _+_, _*_, _%_, _≤_, _<_}
+use Prim.Native.Nat.{ℕ, _+_, _*_, _%_, _≤_, _<_}
 use native.Mathlib.Nat.{mod-lt}
 use native.Mathlib.Omega.{arith}
 use borrow.Author.Tests.{ltb-false, le-ltb, leb-true, le-leb, eqb-true, eqb-false, ne-eqb, not-false}
-use lib.Dec.{T, eqb, ltb, leb}
+use lib.Dec.{eqb, leb}
 use lib.IntN.{ℤ, pos, negsuc, natAbs}
 use lib.ListN.{length}
-use lib.Signed.{_≤ℤ_, nonNeg}
+use lib.Signed.{_≤ℤ_}
 use Rattle.whole.specs.Numbers.{outside, low, high}
-use Rattle.whole.specs.Lists.{at, first}
+use Rattle.whole.specs.Lists.{at}
 use Rattle.whole.specs.Checks.{accept, refuse}
 use Rattle.whole.proofs.Checks.{refuse≢accept, same-accept}
 use Rattle.whole.proofs.Clips.{or-false, and-true}
@@ -31,10 +30,11 @@ use Rattle.strided.specs.declared.Width.the-variants.{Wide, Narrow}
 use Rattle.strided.specs.Planes.{odd, in-pixels, not-in, within, lies, row-start}
 use Rattle.strided.proofs.Rows.{columns-in, rows-in, row-here}
 use Rattle.pixels.proofs.Above.{none-above, no-above}
 use Rattle.itx.specs.Calls.{Block, Call, plain, live, bad-eob, bad-rows, stray, verdict}
-use Rattle.itx.specs.Demands.{Accepted, Announces, Even, NoNumber}
+use Rattle.itx.specs.Accepted.{Accepted}
+use Rattle.demands.specs.Demands.{Announces, Even, NoNumber}
 use Rattle.itx.proofs.Verdicts.{accepting, accepted-by}
-use Rattle.itx.proofs.Sameness.{strays-none, covers-of}
+use Rattle.itx.proofs.Covering.{strays-none, covers-of}
 
 -- ---- a Boolean of the table beside its proposition
 

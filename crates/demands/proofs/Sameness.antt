@@ -1,103 +1,35 @@
 -- Demand 3, live rows: each covering count and each eob from 1 up leave the same; a count that does not cover is refused as stray, and no other.
 use mathlib.Core.Path.{_≡_, refl, sym, ap, _∙_}
 use mathlib.Core.Bool.{Bool, true, false, cond, not, _&&_}
-use mathlib.Core.List.{List, [], _∷_, _++_}
+use mathlib.Core.List.{[], _∷_}
 use mathlib.Core.Option.{Option, none, some}
-use Prim.Native.Nat.{ℕ, zero, suc, _+_, _*_, _/_, _%_, _≤_, _<_}
-use native.Mathlib.Nat.{mod-add-div', mod-lt, mod-eq-of-lt, add-mul-mod-self-right, div-lt-iff-lt-mul, mul-le-mul-right}
+use Prim.Native.Nat.{ℕ, suc, _*_, _≤_}
 use native.Mathlib.Omega.{arith}
-use borrow.Author.Tests.{leb-true, le-leb}
-use lib.Dec.{leb}
-use lib.IntN.{ℤ, pos, negsuc}
-use lib.ListN.{replicate, drop}
-use Rattle.whole.specs.Lists.{at, first}
+use borrow.Author.Tests.{le-leb}
+use lib.IntN.{pos}
+use Rattle.whole.specs.Lists.{first}
 use Rattle.whole.specs.Checks.{accept, refuse, then, unless-at, when, judged}
-use Rattle.whole.proofs.Counts.{first-none, none-first}
-use Rattle.whole.specs.Answers.{acceptance, refusal}
+use Rattle.whole.specs.Answers.{refusal}
 use Rattle.bitdepth.specs.declared.Depth.{Depth}
-use Rattle.bitdepth.specs.Depths.{maximum}
 use Rattle.levels.specs.declared.Plan.{Plan}
-use Rattle.levels.proofs.Sizes.{Sided, side-bounds, plan-sided}
-use Rattle.strided.specs.Planes.{lies, begins}
-use Rattle.residual.specs.declared.Engine.{Engine}
+use Rattle.levels.proofs.Sizes.{Sided}
 use Rattle.residual.specs.declared.Engine.the-variants.{First}
-use Rattle.residual.specs.Blocks.{way, way-by, residual}
-use Rattle.coefs.specs.Coefs.{nonzero, in-dead-row, Covers}
-use Rattle.pixels.specs.Adds.{add-pixel}
-use Rattle.itx.specs.Calls.{Block, Call, plain, live, bad-rows, stray, rows-line, stray-line, with-depth, table, verdict, Outcome}
-use Rattle.itx.specs.Calls.{short, live-rows, by-shortcut, by-passes, outcome-of, outcome}
-use Rattle.itx.specs.Demands.{Accepted, whole}
-use Rattle.itx.proofs.LiveRows.{quiet, residual-same, marked-same}
-use Rattle.pixels.proofs.Pixels.{rows-ext}
+use Rattle.residual.specs.Blocks.{way}
+use Rattle.coefs.specs.Coefs.{in-dead-row, Covers}
+use Rattle.itx.specs.Calls.{Block, Call, plain, live, bad-rows, stray, rows-line, stray-line, with-depth, table, verdict, Outcome, short}
+use Rattle.itx.specs.Calls.{by-shortcut, by-passes, outcome-of, outcome}
+use Rattle.itx.specs.Accepted.{Accepted}
+use Rattle.demands.specs.Demands.{whole}
 use Rattle.itx.proofs.Verdicts.{accepting}
-
--- ---- covering, by rows and by places
-
-is-zero : (z : ℤ) → nonzero z ≡ false → z ≡ pos 0
-is-zero (pos zero) e = refl
-is-zero (pos (suc n)) e = let z : _≡_ {A = ℕ} 0 1 = cc in let f : ⊥ = omega arith in absurd f
-is-zero (negsuc n) e = let z : _≡_ {A = ℕ} 0 1 = cc in let f : ⊥ = omega arith in absurd f
-
-module _ (w h : ℕ) (h-pos : 0 < h) (c : List ℤ) (r : ℕ) where
-  no-stray : Covers w h c r → (i : ℕ) → i < w * h → in-dead-row r h c i ≡ false
-  no-stray covers i l = go (leb r (i % h)) refl
-    where
-      go : (t : Bool) → leb r (i % h) ≡ t → t && nonzero (at c i) ≡ false
-      go false e = refl
-      go true e =
-          ap (λ (j : ℕ). nonzero (at c j)) (sym (mod-add-div' i h))
-          ∙ ap nonzero (covers (i % h) (i / h) (leb-true r (i % h) e) (mod-lt i h-pos) (div-lt-iff-lt-mul h-pos .1 l))
-
-  pub strays-none : Covers w h c r → first (w * h) (in-dead-row r h c) ≡ none
-  strays-none covers = none-first (w * h) (in-dead-row r h c) (no-stray covers)
-
-  pub covers-of : first (w * h) (in-dead-row r h c) ≡ none → Covers w h c r
-  covers-of e y x a b l =
-      let j : y + x * h < w * h = omega (arith, mul-le-mul-right {m = suc x} {n = w} h l) in
-      let m : (y + x * h) % h ≡ y = add-mul-mod-self-right y x h ∙ mod-eq-of-lt b in
-      let s = first-none (w * h) (in-dead-row r h c) e (y + x * h) j in
-      is-zero (at c (y + x * h)) (sym (ap (λ (t : Bool). t && nonzero (at c (y + x * h))) (ap (leb r) m ∙ le-leb r y a)) ∙ s)
-
-second-true : (s t : Bool) → not (s && t) ≡ false → t ≡ true
-second-true true true e = refl
-second-true true false e = sym e
-second-true false true e = refl
-second-true false false e = sym e
-
-pub rows-inside : (call : Call) (p : Plan) → bad-rows call (p .h) ≡ false → live-rows call p ≤ p .h
-rows-inside (plain e) p a = omega arith
-rows-inside (live r) p a = leb-true r (p .h) (second-true (leb 1 r) (leb r (p .h)) a)
-
-pub live-inside : (call : Call) (b : Block) (p : Plan) (d : Depth) → Accepted call b p d → live-rows call p ≤ p .h
-live-inside call b p d a = rows-inside call p (a .rows)
+use Rattle.itx.proofs.Covering.{strays-none, covers-of, live-inside, rows-all, sides, h-positive}
 
 -- ---- the theorems, for a block that the plain call accepts
 
 module _ (b : Block) (p : Plan) (d : Depth) where
-  -- by either engine
-  pub rows-all : (e : Engine) (r : ℕ) → Sided (p .w) → r ≤ p .h → Covers (p .w) (p .h) (b .coefs) r
-      → by-passes b p d (way-by e p d) r ≡ by-passes b p d (way-by e p d) (p .h)
-  rows-all e r s l k =
-      let 𝓦 = way-by e p d in let n = p .w * p .h in let rs = residual 𝓦 (b .coefs) in λ i. record {
-        answer = acceptance (marked-same 𝓦 (quiet e p d s) (b .coefs) r l k i);
-        pixels = rows-ext (maximum d) (b .plane .pixels) (begins (lies (b .plane))) (rs r) (rs (p .h)) (b .plane .view .columns)
-            (b .plane .view .rows) (λ y x g f. ap (add-pixel (maximum d) _) (residual-same 𝓦 (quiet e p d s) (b .coefs) r l k y x)) i;
-        coefs = replicate n (pos 0) ++ drop n (b .coefs);
-      }
-
   pub rows-whole : (r : ℕ) → Sided (p .w) → r ≤ p .h → Covers (p .w) (p .h) (b .coefs) r → by-passes b p d (way p d) r ≡ whole b p d
-  rows-whole = rows-all First
+  rows-whole = rows-all b p d First
 
   module _ (call : Call) (a : Accepted call b p d) where
-    pub sides : Sided (p .w) × Sided (p .h)
-    sides = plan-sided (b .w) (b .h) (b .type) p (a .planned)
-
-    pub h-positive : 0 < p .h
-    h-positive = omega (arith, side-bounds (p .h) (sides .1) .0)
-
-    pub area-positive : 0 < p .w * p .h
-    area-positive = omega (arith, mul-le-mul-right {m = 1} {n = p .w} (p .h) (omega (arith, side-bounds (p .w) (sides .0) .0)), h-positive)
-
     pub opened : outcome call b ≡ outcome-of way call b (accept (p, d))
     unfolding outcome
     opened = ap (outcome-of way call b) (accepting call b p d a)
@@ -105,7 +37,7 @@ module _ (b : Block) (p : Plan) (d : Depth) where
   pub live-whole : (r : ℕ) → Accepted (live r) b p d → outcome (live r) b ≡ whole b p d
   live-whole r a =
       opened (live r) a
-      ∙ rows-whole r (sides (live r) a .0) (live-inside (live r) b p d a) (covers-of (p .w) (p .h) (h-positive (live r) a) (b .coefs) r (a .covered))
+      ∙ rows-whole r (sides b p d (live r) a .0) (live-inside (live r) b p d a) (covers-of (p .w) (p .h) (h-positive b p d (live r) a) (b .coefs) r (a .covered))
 
   pub plain-whole : (n : ℕ) → Accepted (plain (pos (suc n))) b p d → outcome (plain (pos (suc n))) b ≡ whole b p d
   plain-whole n a = opened (plain (pos (suc n))) a
@@ -152,7 +84,7 @@ module _ (b : Block) (p : Plan) (d : Depth) where
       enough = good .enough;
       placed = good .placed;
       ranged = good .ranged;
-      covered = strays-none (p .w) (p .h) (h-positive (plain (pos 0)) good) (b .coefs) r k;
+      covered = strays-none (p .w) (p .h) (h-positive b p d (plain (pos 0)) good) (b .coefs) r k;
       sound = good .sound;
     }
 
@@ -179,7 +111,7 @@ module _ (b : Block) (p : Plan) (d : Depth) where
       where
         go : (o : Option ℕ) → stray (live r) p (b .coefs) ≡ o → (i : ℕ) × (stray (live r) p (b .coefs) ≡ some i)
             × (outcome (live r) b .answer ≡ refusal 10 i)
-        go none e = absurd (f (covers-of (p .w) (p .h) (h-positive (plain (pos 0)) good) (b .coefs) r e))
+        go none e = absurd (f (covers-of (p .w) (p .h) (h-positive b p d (plain (pos 0)) good) (b .coefs) r e))
         go (some i) e = (i, e, ap (λ (o : Outcome). o .answer) (stray-at r i g l e))
 
     -- and a count that covers is not, whatever its bounds
@@ -189,7 +121,7 @@ module _ (b : Block) (p : Plan) (d : Depth) where
       where
         steps : verdict (live r) b ≡ judged (rows-line (live r) ∷ []) (p, d)
         steps = live-checks r ∙ (λ j. unless-at (when (bad-rows (live r) (p .h))) 5
-            (unless-at (strays-none (p .w) (p .h) (h-positive (plain (pos 0)) good) (b .coefs) r k j) 10 (accept (p, d))))
+            (unless-at (strays-none (p .w) (p .h) (h-positive b p d (plain (pos 0)) good) (b .coefs) r k j) 10 (accept (p, d))))
 
         go : (t : Bool) → outcome-of way (live r) b (unless-at (when t) 5 (accept (p, d))) .answer .number ≡ 10 → ⊥
         go true f = omega arith

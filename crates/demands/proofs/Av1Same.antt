@@ -2,52 +2,35 @@
 use mathlib.Core.Path.{_≡_, refl, sym, ap, ap₂, _∙_}
 use mathlib.Core.Bool.{Bool, true, false, cond, _||_}
 use mathlib.Core.List.{List, _++_}
-use Prim.Native.Nat.{ℕ, _+_, _*_, _<_, max}
+use Prim.Native.Nat.{ℕ, _+_, _*_, _<_}
 use borrow.Author.Tests.{ltb-true}
-use lib.Dec.{eqb, ltb}
+use lib.Dec.{ltb}
 use lib.IntN.{ℤ, pos}
 use lib.ListN.{replicate, drop}
-use Rattle.whole.specs.Numbers.{_>>_, round2, clip, low, high}
 use Rattle.whole.specs.Lists.{at, any}
 use Rattle.whole.specs.Checks.{Check, accept, refuse}
 use Rattle.whole.proofs.Clips.{or-false}
 use Rattle.whole.proofs.Counts.{tab-ext, any-none, none-of-any}
-use Rattle.whole.proofs.Ranges.{by-181}
 use Rattle.levels.specs.Sides.{side}
 use Rattle.whole.specs.Answers.{acceptance}
 use Rattle.itx_1d.specs.Passes.{av1-pass}
 use Rattle.itx_1d.proofs.PassLaws.{pass-av1}
 use Rattle.bitdepth.specs.declared.Depth.{Depth}
-use Rattle.bitdepth.specs.declared.Depth.the-variants.{Eight, Ten, Twelve}
-use Rattle.bitdepth.specs.Depths.{row-range, column-range, maximum, bit-depth}
+use Rattle.bitdepth.specs.Depths.{row-range, column-range, maximum}
 use Rattle.levels.specs.declared.Plan.{Plan}
 use native.Mathlib.Omega.{arith}
 use Rattle.strided.specs.Planes.{lies, begins}
 use Rattle.strided.proofs.Rows.{columns-in}
 use Rattle.pixels.specs.Adds.{add-pixel}
-use Rattle.itx.specs.Av1.{held, av1-way, av1-outcome}
+use Rattle.itx.specs.Av1.{av1-way, av1-outcome}
 use Rattle.itx.specs.Calls.{Block, Call, plain, Outcome, verdict, short, live-rows, by-shortcut, by-passes, outcome-of, outcome}
-use Rattle.itx.specs.Demands.{Accepted, Announced}
+use Rattle.itx.specs.Accepted.{Accepted}
+use Rattle.demands.specs.Demands.{Announced}
 use Rattle.pixels.proofs.Pixels.{rows-ext}
-use Rattle.itx.proofs.Demand3.{demand-3}
+use Rattle.demands.proofs.Demand3.{demand-3}
 use Rattle.itx.proofs.Verdicts.{accepted-by}
-use Rattle.residual.specs.Blocks.{entered, row, middle, column, residual, marked, prescale, way}
-use Rattle.levels.specs.Manners.{if-wht}
-
--- ---- number by number
-
-module _ (p : Plan) (d : Depth) where
-  pub enter-av1 : (v : ℤ) → way p d .enter v ≡ av1-way p d .enter v
-  unfolding Rattle.residual.specs.Blocks.prescale
-  enter-av1 v = ap (λ (z : ℤ). if-wht (p .rows) (v >> 2) (cond (eqb (p .w * 2) (p .h) || eqb (p .h * 2) (p .w)) z v)) (sym (by-181 v))
-
-  held-av1 : (d : Depth) (v : ℤ) → clip v (low (column-range d)) (high (column-range d)) ≡ held (max (bit-depth d + 6) 16) v
-  held-av1 Eight v = refl
-  held-av1 Ten v = refl
-  held-av1 Twelve v = refl
-
-  pub between-av1 : (v : ℤ) → way p d .between v ≡ av1-way p d .between v
-  between-av1 v = ap (if-wht (p .rows) v) (held-av1 d (round2 v (p .shift)))
+use Rattle.itx.proofs.Engines.{enter-av1, between-av1}
+use Rattle.residual.specs.Blocks.{entered, row, middle, column, residual, marked, way}
 
 -- ---- the block, with r live rows
 

@@ -25,12 +25,13 @@ use Rattle.strided.proofs.Rows.{columns-in, rows-in, all-inside}
 use Rattle.pixels.specs.Adds.{add-pixel}
 use Rattle.pixels.specs.Above.{first-above}
 use Rattle.pixels.proofs.Above.{row-of, column-of, none-above, no-above}
 use Rattle.itx.specs.Calls.{Block, Call, bad-eob, bad-rows, range-line, stray-line, pixel-line, with-depth, table, verdict, outcome}
-use Rattle.itx.specs.Demands.{Accepted, addend}
-use Rattle.itx.specs.Visible.{over, shown, padded, table-01, verdict-01, painted-01}
-use Rattle.itx.proofs.Outcomes.{answer-is, coefs-are, pixels-are, pixel-rule}
-use Rattle.itx.proofs.Sameness.{sides}
+use Rattle.itx.specs.Accepted.{Accepted}
+use Rattle.demands.specs.Demands.{addend}
+use Rattle.demands.specs.Visible.{over, shown, padded, table-01, verdict-01, painted-01}
+use Rattle.demands.proofs.Outcomes.{answer-is, coefs-are, pixels-are, pixel-rule}
+use Rattle.itx.proofs.Covering.{sides}
 use Rattle.itx.proofs.Verdicts.{then-same, planned-at}
 
 -- ---- one block on two planes
 

@@ -1,63 +1,38 @@
 -- Coefficients past w·h and pixels that are not visible influence nothing: a call on other ones answers the same, and leaves the same
 -- visible pixels and the same w·h coefficients.
 use mathlib.Core.Path.{_≡_, refl, sym, ap, ap₂, _∙_, subst, subst⁻¹}
-use mathlib.Core.Bool.{Bool, true, false, cond, _&&_, _||_}
+use mathlib.Core.Bool.{Bool, true, false, cond}
 use mathlib.Core.List.{List, [], _∷_, _++_}
-use Prim.Native.Nat.{ℕ, zero, suc, _+_, _*_, _%_, _≤_, _<_}
-use native.Mathlib.Nat.{mul-le-mul-right}
+use Prim.Native.Nat.{ℕ, zero, suc, _+_, _*_, _<_}
 use native.Mathlib.Omega.{arith}
 use borrow.Author.Tests.{ltb-false}
-use lib.Dec.{ltb, leb}
+use lib.Dec.{ltb}
 use lib.IntN.{ℤ, pos}
 use lib.ListN.{getD, length, set, replicate, drop}
 use Rattle.whole.specs.Numbers.{outside, low, high}
 use Rattle.whole.specs.Lists.{at}
 use Rattle.whole.specs.Checks.{Check, accept, refuse, then, when, judged}
 use Rattle.whole.proofs.Checks as Checks
-use Rattle.whole.proofs.Counts.{tab-ext, any-ext, first-ext}
+use Rattle.whole.proofs.Counts.{first-ext}
 use Rattle.whole.specs.Answers.{acceptance, refusal}
-use Rattle.itx_1d.specs.Passes.{Passed}
 use Rattle.bitdepth.specs.declared.Depth.{Depth}
 use Rattle.bitdepth.specs.Depths.{depth, row-range, maximum}
 use Rattle.levels.specs.declared.Plan.{Plan}
 use Rattle.levels.specs.Plans.{plan}
 use Rattle.levels.proofs.Sizes.{plan-of}
 use Rattle.strided.specs.Planes.{lies, spot-outside, place}
-use Rattle.residual.specs.Blocks.{Way, entered, row, middle, column, residual, marked, way, shortcut}
-use Rattle.coefs.specs.Coefs.{nonzero}
+use Rattle.residual.specs.Blocks.{way, shortcut}
 use Rattle.pixels.specs.Adds.{add-pixel}
 use Rattle.pixels.proofs.Above.{above-alike}
-use Rattle.itx.specs.Calls.{Block, Call, plain, live, stray, table, checked, verdict, short, live-rows, outcome-of, outcome}
-use Rattle.itx.specs.Demands.{Accepted, addend, other}
-use Rattle.itx.proofs.Outcomes.{answer-is, coefs-are, pixel-rule}
-use Rattle.itx.proofs.Sameness.{live-inside, area-positive}
+use Rattle.itx.specs.Calls.{Block, Call, table, checked, verdict, short, live-rows, outcome-of, outcome}
+use Rattle.itx.specs.Accepted.{Accepted}
+use Rattle.demands.specs.Demands.{addend, other}
+use Rattle.demands.proofs.Outcomes.{answer-is, coefs-are, pixel-rule}
+use Rattle.itx.proofs.Covering.{live-inside, area-positive}
+use Rattle.itx.proofs.Alike.{residual-alike, marked-alike, stray-alike}
 use Rattle.itx.proofs.Verdicts.{accepting, accepted-by}
-
--- ---- the transform reads the first w·h coefficients
-
-module _ (𝓦 : Way) (c c′ : List ℤ) (alike : (i : ℕ) → i < 𝓦 .w * 𝓦 .h → at c i ≡ at c′ i) where
-  row-alike : (y : ℕ) → y < 𝓦 .h → row 𝓦 c y ≡ row 𝓦 c′ y
-  row-alike y l =
-      ap (𝓦 .row) (tab-ext (𝓦 .w) (entered 𝓦 c y) (entered 𝓦 c′ y)
-      (λ x g. ap (𝓦 .enter) (alike (y + x * 𝓦 .h) (omega (arith, mul-le-mul-right {m = suc x} {n = 𝓦 .w} (𝓦 .h) g)))))
-
-  pub column-alike : (r x : ℕ) → column 𝓦 c r x ≡ column 𝓦 c′ r x
-  column-alike r x =
-      ap (𝓦 .column) (tab-ext (𝓦 .h) (λ y. middle 𝓦 c r y x) (λ y. middle 𝓦 c′ r y x)
-      (λ y l. ap (λ (s : Passed). cond (ltb y r) (𝓦 .between (at (s .values) x)) (pos 0)) (row-alike y l)))
-
-  residual-alike : (r y x : ℕ) → residual 𝓦 c r y x ≡ residual 𝓦 c′ r y x
-  residual-alike r y x = ap (λ (s : Passed). 𝓦 .leave (at (s .values) y)) (column-alike r x)
-
-  pub marked-alike : (r : ℕ) → r ≤ 𝓦 .h → marked 𝓦 c r ≡ marked 𝓦 c′ r
-  marked-alike r m = ap₂ (λ a b. a || b) (any-ext r _ _ (λ y l. ap (λ (s : Passed). s .mark) (row-alike y (omega arith))))
-      (any-ext (𝓦 .w) _ _ (λ x l. ap (λ (s : Passed). s .mark) (column-alike r x)))
 
 -- ---- the calls
-
-pub stray-alike : (call : Call) (p : Plan) (c c′ : List ℤ) → ((i : ℕ) → i < p .w * p .h → at c i ≡ at c′ i) → stray call p c ≡ stray call p c′
-stray-alike (plain e) p c c′ q = refl
-stray-alike (live r) p c c′ q = first-ext (p .w * p .h) _ _ (λ i l. ap (λ (z : ℤ). leb r (i % p .h) && nonzero z) (q i l))
 
 -- what is left of n coefficients by the short or the long way: of each it depends on that one alone
 abbrev left : ℕ → Bool → List ℤ → List ℤ
