@@ -1,2 +1,3 @@
 -- Laws of the depths.
 pub mod Unique
+pub mod Ends

@@ -23,12 +23,13 @@ use Rattle.strided.specs.Planes.{lies, begins}
 use Rattle.strided.proofs.Rows.{columns-in}
 use Rattle.pixels.specs.Adds.{add-pixel}
 use Rattle.itx.specs.Av1.{av1-way, av1-outcome}
-use Rattle.itx.specs.Calls.{Block, Call, plain, Outcome, verdict, short, live-rows, by-shortcut, by-passes, outcome-of, outcome}
-use Rattle.itx.specs.Accepted.{Accepted}
+use Rattle.checks.specs.Table.{Block, Call, plain, verdict, short, live-rows}
+use Rattle.itx.specs.Calls.{Outcome, by-shortcut, by-passes, outcome-of, outcome}
+use Rattle.checks.specs.Accepted.{Accepted}
 use Rattle.demands.specs.Demands.{Announced}
 use Rattle.pixels.proofs.Pixels.{rows-ext}
 use Rattle.demands.proofs.Demand3.{demand-3}
-use Rattle.itx.proofs.Verdicts.{accepted-by}
+use Rattle.checks.proofs.Verdicts.{accepted-by}
 use Rattle.itx.proofs.Engines.{enter-av1, between-av1}
 use Rattle.residual.specs.Blocks.{entered, row, middle, column, residual, marked, way}
 

@@ -17,11 +17,12 @@ use Rattle.levels.specs.Plans.{kinds-of, plan}
 use Rattle.levels.proofs.Sizes.{plan-of, plan-sided, side-bounds}
 use Rattle.coefs.specs.Coefs.{Covers}
 use Rattle.residual.specs.Blocks.{way}
-use Rattle.itx.specs.Calls.{Block, Call, plain, live, bad-rows, with-depth, table, verdict, outcome-of, outcome}
-use Rattle.itx.specs.Accepted.{Accepted}
+use Rattle.checks.specs.Table.{Block, Call, plain, live, bad-rows, with-depth, table, verdict}
+use Rattle.itx.specs.Calls.{outcome-of, outcome}
+use Rattle.checks.specs.Accepted.{Accepted}
 use Rattle.demands.specs.Demands.{Alone, whole, Announced, eob, rows, other-type, first-only}
-use Rattle.itx.proofs.Verdicts.{then-same, planned-at, accepted-by}
-use Rattle.itx.proofs.Covering.{strays-none}
+use Rattle.checks.proofs.Verdicts.{then-same, planned-at, accepted-by}
+use Rattle.checks.proofs.Covering.{strays-none}
 use Rattle.demands.proofs.Sameness.{accepted-plain, live-whole, plain-whole, zero-whole, with-eob, with-rows}
 use Rattle.demands.proofs.Shortcut.{dct-dct, shortcut-whole}
 

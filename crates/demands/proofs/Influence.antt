@@ -24,13 +24,14 @@ use Rattle.strided.specs.Planes.{lies, spot-outside, place}
 use Rattle.residual.specs.Blocks.{way, shortcut}
 use Rattle.pixels.specs.Adds.{add-pixel}
 use Rattle.pixels.proofs.Above.{above-alike}
-use Rattle.itx.specs.Calls.{Block, Call, table, checked, verdict, short, live-rows, outcome-of, outcome}
-use Rattle.itx.specs.Accepted.{Accepted}
+use Rattle.checks.specs.Table.{Block, Call, table, checked, verdict, short, live-rows}
+use Rattle.itx.specs.Calls.{outcome-of, outcome}
+use Rattle.checks.specs.Accepted.{Accepted}
 use Rattle.demands.specs.Demands.{addend, other}
 use Rattle.demands.proofs.Outcomes.{answer-is, coefs-are, pixel-rule}
-use Rattle.itx.proofs.Covering.{live-inside, area-positive}
-use Rattle.itx.proofs.Alike.{residual-alike, marked-alike, stray-alike}
-use Rattle.itx.proofs.Verdicts.{accepting, accepted-by}
+use Rattle.checks.proofs.Covering.{live-inside, area-positive, stray-alike}
+use Rattle.ways.proofs.Alike.{residual-alike, marked-alike}
+use Rattle.checks.proofs.Verdicts.{accepting, accepted-by}
 
 -- ---- the calls
 

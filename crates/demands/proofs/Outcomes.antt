@@ -24,14 +24,15 @@ use Rattle.strided.specs.declared.View.{View}
 use Rattle.strided.proofs.Rows.{row-fits, rows-apart}
 use Rattle.residual.specs.Blocks.{residual, marked, way, shortcut}
 use Rattle.pixels.specs.Adds.{add-pixel, add-row, add-rows}
-use Rattle.itx.specs.Calls.{Block, Call, verdict, Outcome, short, live-rows, painted, by-shortcut, by-passes, outcome-of, outcome}
-use Rattle.itx.specs.Accepted.{Accepted}
+use Rattle.checks.specs.Table.{Block, Call, verdict, short, live-rows}
+use Rattle.itx.specs.Calls.{Outcome, painted, by-shortcut, by-passes, outcome-of, outcome}
+use Rattle.checks.specs.Accepted.{Accepted}
 use Rattle.demands.specs.Demands.{addend}
 use Rattle.pixels.proofs.Pixels.{rows-length, pixel-kept, pixel-set}
 use Rattle.itx.proofs.Numbers.{answered}
-use Rattle.itx.proofs.Verdicts.{accepted-by}
+use Rattle.checks.proofs.Verdicts.{accepted-by}
 use Rattle.demands.proofs.Sameness.{opened}
-use Rattle.itx.proofs.Covering.{area-positive}
+use Rattle.checks.proofs.Covering.{area-positive}
 
 -- ---- an accepted call
 

@@ -16,12 +16,13 @@ use Rattle.levels.proofs.Sizes.{Sided}
 use Rattle.residual.specs.declared.Engine.the-variants.{First}
 use Rattle.residual.specs.Blocks.{way}
 use Rattle.coefs.specs.Coefs.{in-dead-row, Covers}
-use Rattle.itx.specs.Calls.{Block, Call, plain, live, bad-rows, stray, rows-line, stray-line, with-depth, table, verdict, Outcome, short}
-use Rattle.itx.specs.Calls.{by-shortcut, by-passes, outcome-of, outcome}
-use Rattle.itx.specs.Accepted.{Accepted}
+use Rattle.checks.specs.Table.{Block, Call, plain, live, bad-rows, stray, rows-line, stray-line, with-depth, table, verdict, short}
+use Rattle.itx.specs.Calls.{Outcome, by-shortcut, by-passes, outcome-of, outcome}
+use Rattle.checks.specs.Accepted.{Accepted}
 use Rattle.demands.specs.Demands.{whole}
-use Rattle.itx.proofs.Verdicts.{accepting}
-use Rattle.itx.proofs.Covering.{strays-none, covers-of, live-inside, rows-all, sides, h-positive}
+use Rattle.checks.proofs.Verdicts.{accepting}
+use Rattle.checks.proofs.Covering.{strays-none, covers-of, live-inside, sides, h-positive}
+use Rattle.itx.proofs.LiveRows.{rows-all}
 
 -- ---- the theorems, for a block that the plain call accepts
 

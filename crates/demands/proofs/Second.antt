@@ -8,9 +8,10 @@ use Rattle.whole.proofs.Counts.{any-none}
 use Rattle.bitdepth.specs.declared.Depth.{Depth}
 use Rattle.levels.specs.declared.Plan.{Plan}
 use Rattle.residual.specs.Blocks.{marked, row, column}
-use Rattle.itx.specs.Inner.{adst-planned}
+use Rattle.checks.specs.Inner.{adst-planned}
 use Rattle.itx.specs.Av1.{av1-way}
-use Rattle.itx.specs.Calls.{Block, Call, Outcome, checked, spec-verdict, short, live-rows, by-shortcut, outcome-of, outcome}
+use Rattle.checks.specs.Table.{Block, Call, checked, spec-verdict, short, live-rows}
+use Rattle.itx.specs.Calls.{Outcome, by-shortcut, outcome-of, outcome}
 use Rattle.itx.specs.Spec.{spec-outcome}
 use Rattle.itx.proofs.Engines.{planned, unbarred, barred, by-spec}
 use Rattle.demands.proofs.Av1Same.{unmarked-av1}

@@ -31,15 +31,16 @@ use Rattle.strided.specs.Planes.{lies, begins, place}
 use Rattle.strided.proofs.Rows.{columns-in, rows-in, row-fits, rows-apart}
 use Rattle.residual.specs.Blocks.{Way, way, entered, row, middle, column, residual, marked, prescale, shortcut}
 use Rattle.pixels.specs.Adds.{add-pixel, add-rows}
-use Rattle.itx.specs.Calls.{Block, plain, by-shortcut, by-passes, outcome}
-use Rattle.itx.specs.Accepted.{Accepted}
+use Rattle.checks.specs.Table.{Block, plain}
+use Rattle.itx.specs.Calls.{by-shortcut, by-passes, outcome}
+use Rattle.checks.specs.Accepted.{Accepted}
 use Rattle.demands.specs.Demands.{Alone, whole}
 use Rattle.coefs.specs.Coefs.{Covers}
 use Rattle.itx.proofs.LiveRows.{prescale-zero}
 use Rattle.pixels.proofs.Pixels.{pixel-waits, rows-ext}
 use Rattle.pixels.proofs.Above.{none-above}
 use Rattle.demands.proofs.Sameness.{rows-whole, opened}
-use Rattle.itx.proofs.Covering.{sides, area-positive}
+use Rattle.checks.proofs.Covering.{sides, area-positive}
 
 -- the DCT_DCT plan of a size
 abbrev pub dct-dct : ℕ → ℕ → ℕ → Plan

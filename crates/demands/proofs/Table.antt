@@ -30,11 +30,11 @@ use Rattle.strided.specs.declared.Width.the-variants.{Wide, Narrow}
 use Rattle.strided.specs.Planes.{odd, in-pixels, not-in, within, lies, row-start}
 use Rattle.strided.proofs.Rows.{columns-in, rows-in, row-here}
 use Rattle.pixels.proofs.Above.{none-above, no-above}
-use Rattle.itx.specs.Calls.{Block, Call, plain, live, bad-eob, bad-rows, stray, verdict}
-use Rattle.itx.specs.Accepted.{Accepted}
+use Rattle.checks.specs.Table.{Block, Call, plain, live, bad-eob, bad-rows, stray, verdict}
+use Rattle.checks.specs.Accepted.{Accepted}
 use Rattle.demands.specs.Demands.{Announces, Even, NoNumber}
-use Rattle.itx.proofs.Verdicts.{accepting, accepted-by}
-use Rattle.itx.proofs.Covering.{strays-none, covers-of}
+use Rattle.checks.proofs.Verdicts.{accepting, accepted-by}
+use Rattle.checks.proofs.Covering.{strays-none, covers-of}
 
 -- ---- a Boolean of the table beside its proposition
 

@@ -8,10 +8,11 @@ use lib.IntN.{ℤ}
 use Rattle.whole.specs.Answers as Answers
 use Rattle.itx.specs.declared.Answer.{Answer}
 use Rattle.itx.specs.declared.Answer.the-variants.{Done, Refused}
-use Rattle.itx.specs.declared.Refusal.{Refusal}
-use Rattle.itx.specs.declared.Refusal.the-variants.{NoSize, NoType, NoDepth, NegativeEob, NoSuchRows, FewCoefficients, NotVisible, BadStride}
-use Rattle.itx.specs.declared.Refusal.the-variants.{RowOutside, OutOfRange, Stray, AboveMaximum}
-use Rattle.itx.specs.Answers.{number, place, answer-of}
+use Rattle.checks.specs.declared.Refusal.{Refusal}
+use Rattle.checks.specs.declared.Refusal.the-variants.{NoSize, NoType, NoDepth, NegativeEob, NoSuchRows, FewCoefficients, NotVisible, BadStride}
+use Rattle.checks.specs.declared.Refusal.the-variants.{RowOutside, OutOfRange, Stray, AboveMaximum}
+use Rattle.checks.specs.Refusals.{number, place}
+use Rattle.itx.specs.Answers.{answer-of}
 use Rattle.itx.specs.Calls.{Outcome, Meets}
 
 pub one-outcome : {o : Outcome} {a a′ : Answers.Answer} {ps ps′ : List ℕ} {cs cs′ : List ℤ} → Meets o a ps cs → Meets o a′ ps′ cs′

@@ -22,10 +22,11 @@ use Rattle.strided.specs.Planes.{bad-view, spot, spot-outside, begins}
 use Rattle.strided.proofs.Widths.{same-spot, same-stride}
 use Rattle.residual.specs.Blocks.{way, residual, marked, shortcut}
 use Rattle.pixels.specs.Adds.{add-rows}
-use Rattle.itx.specs.Calls.{Block, Call, eob-line, rows-line, count-line, lengths-lines, range-line, stray-line, pixel-line, table, with-depth}
-use Rattle.itx.specs.Calls.{verdict, short, live-rows, outcome-of, outcome}
+use Rattle.checks.specs.Table.{Block, Call, eob-line, rows-line, count-line, lengths-lines, range-line, stray-line, pixel-line, table, with-depth}
+use Rattle.checks.specs.Table.{verdict, short, live-rows}
+use Rattle.itx.specs.Calls.{outcome-of, outcome}
 use Rattle.demands.specs.Widths.{narrow-block, wide-block, narrow-lines, one-of, narrow-numbers}
-use Rattle.itx.proofs.Narrow.{left-out, range-none, above-none}
+use Rattle.checks.proofs.Narrow.{left-out, range-none, above-none}
 use Rattle.itx.proofs.Numbers.{num, answer-num, num-by, shift-by, checked-by}
 
 module _ (call : Call) (w h type : ℕ) (c : List ℤ) (ps : List ℕ) (v : View) where

@@ -18,7 +18,8 @@ use Rattle.strided.specs.declared.Width.{Width}
 use Rattle.strided.specs.declared.Width.the-variants.{Wide, Narrow}
 use Rattle.strided.specs.Planes.{in-pixels, row-start, place}
 use Rattle.residual.specs.Blocks.{way, residual, shortcut}
-use Rattle.itx.specs.Calls.{Block, Call, plain, live, Outcome, short, live-rows, by-passes}
+use Rattle.checks.specs.Table.{Block, Call, plain, live, short, live-rows}
+use Rattle.itx.specs.Calls.{Outcome, by-passes}
 
 -- numbers 4, 5 and 10 do not hold: "eob negative"; "r not in 1..h", "nonzero coefficient in a row r or later"
 abbrev pub Announces : Call → Plan → List ℤ → Type 0

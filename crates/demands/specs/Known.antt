@@ -13,8 +13,8 @@ use Rattle.levels.specs.Manners.{is-wht}
 use Rattle.whole.specs.Answers as Answers
 use Rattle.itx_1d.specs.Calls as Passes
 use Rattle.strided.specs.Planes.{lent, whole}
-use Rattle.itx.specs.Calls.{plain, Outcome, outcome}
-use Rattle.itx.specs.Answers.{block}
+use Rattle.checks.specs.Table.{plain, block}
+use Rattle.itx.specs.Calls.{Outcome, outcome}
 
 pub data Case : Type 0 where
   passes : Kind → Side → List ℤ → List ℤ → Bool → Case  -- a pass of this kind and length on these elements gives these, with this mark

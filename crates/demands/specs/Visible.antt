@@ -13,7 +13,7 @@ use Rattle.levels.specs.Plans.{plan}
 use Rattle.strided.specs.declared.View.{View}
 use Rattle.strided.specs.Planes.{Plane, lent, whole, in-pixels, bad-stride, rows-outside, lies, begins, place}
 use Rattle.pixels.specs.Adds.{add-rows}
-use Rattle.itx.specs.Calls.{Block, Call, eob-line, rows-line, count-line, range-line, stray-line, pixel-line, with-depth}
+use Rattle.checks.specs.Table.{Block, Call, eob-line, rows-line, count-line, range-line, stray-line, pixel-line, with-depth}
 
 -- the block on another plane
 abbrev pub over : Block → Plane → Block

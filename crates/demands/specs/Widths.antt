@@ -11,8 +11,7 @@ use Rattle.levels.specs.declared.Plan.{Plan}
 use Rattle.strided.specs.declared.View.{View}
 use Rattle.strided.specs.declared.Width.the-variants.{Narrow}
 use Rattle.strided.specs.Planes.{lent, lent-8, doubled}
-use Rattle.itx.specs.Calls.{Block, Call, lengths-lines, stray-line}
-use Rattle.itx.specs.Answers.{block}
+use Rattle.checks.specs.Table.{Block, Call, lengths-lines, stray-line, block}
 
 -- the block as the narrow call is given it, and as the wide one would be
 abbrev pub narrow-block : ℕ → ℕ → ℕ → List ℤ → List ℕ → View → Block

@@ -33,14 +33,17 @@ use Rattle.strided.proofs.Rows.{columns-in, rows-in}
 use Rattle.residual.specs.declared.Engine.{Engine}
 use Rattle.residual.specs.Blocks.{way-by, residual, shortcut}
 use Rattle.residual.specs.Inner.{Sized}
-use Rattle.residual.proofs.Ends.{row-reach, size}
-use Rattle.itx.specs.declared.Refusal.{Refusal}
-use Rattle.itx.specs.Calls.{Block, Call, plain, live, Outcome, Meets, verdict, outcome-of, short, live-rows, by-shortcut, by-passes}
-use Rattle.itx.specs.Accepted.{Accepted}
-use Rattle.itx.specs.Answers.{number, place}
-use Rattle.itx.specs.Inner.{added, left, Ready, Suits, Passed, Shortened}
-use Rattle.itx.proofs.Covering.{rows-all, sides, live-inside}
-use Rattle.itx.proofs.Verdicts.{accepting}
+use Rattle.bitdepth.proofs.Ends.{row-reach, size}
+use Rattle.checks.specs.declared.Refusal.{Refusal}
+use Rattle.checks.specs.Table.{Block, Call, plain, live, verdict, short, live-rows}
+use Rattle.itx.specs.Calls.{Outcome, Meets, outcome-of, by-shortcut, by-passes}
+use Rattle.checks.specs.Accepted.{Accepted}
+use Rattle.checks.specs.Refusals.{number, place}
+use Rattle.ways.specs.Inner.{added, Ready, Suits, Passed, Shortened}
+use Rattle.itx.specs.Inner.{left}
+use Rattle.itx.proofs.LiveRows.{rows-all}
+use Rattle.checks.proofs.Covering.{sides, live-inside}
+use Rattle.checks.proofs.Verdicts.{accepting}
 
 -- ---- a plan's kinds fit its sides
 

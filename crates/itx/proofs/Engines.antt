@@ -16,12 +16,14 @@ use Rattle.bitdepth.specs.Depths.{column-range, bit-depth}
 use Rattle.levels.specs.declared.Plan.{Plan}
 use native.Mathlib.Omega.{arith}
 use Rattle.itx.specs.Av1.{held, av1-way}
-use Rattle.itx.specs.Calls.{Block, Call, Outcome, outcome-of, outcome, Meets, checked, with-adst}
+use Rattle.checks.specs.Table.{Block, Call, checked, with-adst}
+use Rattle.itx.specs.Calls.{Outcome, outcome-of, outcome, Meets}
 use Rattle.residual.specs.Blocks.{row, column, prescale, way, way-by}
 use Rattle.levels.specs.Manners.{if-wht, is-adst}
 use Rattle.levels.specs.Plans.{plan}
 use Rattle.residual.specs.declared.Engine.the-variants.{First, Spec}
-use Rattle.itx.specs.Inner.{left, Allowed, adst-planned}
+use Rattle.itx.specs.Inner.{left, Allowed}
+use Rattle.checks.specs.Inner.{adst-planned}
 use Rattle.itx.specs.Spec.{spec-outcome}
 use Rattle.itx.proofs.Accepted.{met}
 

@@ -1,8 +1,8 @@
 -- Zero rows may be left out: a transform with r live rows is the transform with all of them, wherever the rows from r on are zero.
 use mathlib.Core.Path.{_≡_, refl, sym, ap, ap₂, _∙_, subst}
 use mathlib.Core.Bool.{Bool, true, false, cond, _||_}
-use mathlib.Core.List.{List}
-use Prim.Native.Nat.{ℕ, zero, suc, _*_, _≤_, _<_}
+use mathlib.Core.List.{List, _++_}
+use Prim.Native.Nat.{ℕ, zero, suc, _*_, _≤_, _<_, _+_}
 use native.Mathlib.Nat.{div-eq-of-lt}
 use native.Mathlib.Omega.{arith}
 use borrow.Author.Tests.{ltb-false, lt-ltb}
@@ -20,7 +20,7 @@ use Rattle.itx_1d.specs.Passes.{Passed}
 use Rattle.levels.proofs.Manners.{split}
 use Rattle.itx_1d.proofs.PassLaws.{zeros, zero-pass, zero-unmarked, pass-av1}
 use Rattle.bitdepth.specs.declared.Depth.{Depth}
-use Rattle.bitdepth.specs.Depths.{row-range, column-range}
+use Rattle.bitdepth.specs.Depths.{row-range, column-range, maximum}
 use Rattle.levels.specs.declared.Plan.{Plan}
 use Rattle.levels.proofs.Sizes.{Sided}
 use Rattle.coefs.specs.Coefs.{Covers}
@@ -28,6 +28,13 @@ use Rattle.residual.specs.declared.Engine.{Engine}
 use Rattle.residual.specs.declared.Engine.the-variants.{First, Spec}
 use Rattle.residual.specs.Blocks.{Way, entered, row, middle, column, residual, marked, prescale, passed-by, way-by}
 use Rattle.levels.specs.Manners.{if-wht}
+use lib.ListN.{replicate, drop}
+use Rattle.whole.specs.Answers.{acceptance}
+use Rattle.strided.specs.Planes.{lies, begins}
+use Rattle.pixels.specs.Adds.{add-pixel}
+use Rattle.checks.specs.Table.{Block}
+use Rattle.itx.specs.Calls.{by-passes}
+use Rattle.pixels.proofs.Pixels.{rows-ext}
 
 -- zero stays zero, up to the column pass
 pub record Quiet (𝓦 : Way) : Type 0 where
@@ -114,3 +121,15 @@ quiet e p d s = record {
     row-unmarked : (e : Engine) → passed-by e (p .rows) n (row-range d) (zeros (len n)) .mark ≡ false
     row-unmarked First = zero-unmarked n (row-range d) (p .rows)
     row-unmarked Spec = refl
+
+-- so such a count leaves what all rows leave, by either engine
+module _ (b : Block) (p : Plan) (d : Depth) where
+  pub rows-all : (e : Engine) (r : ℕ) → Sided (p .w) → r ≤ p .h → Covers (p .w) (p .h) (b .coefs) r
+      → by-passes b p d (way-by e p d) r ≡ by-passes b p d (way-by e p d) (p .h)
+  rows-all e r s l k =
+      let 𝓦 = way-by e p d in let n = p .w * p .h in let rs = residual 𝓦 (b .coefs) in λ i. record {
+        answer = acceptance (marked-same 𝓦 (quiet e p d s) (b .coefs) r l k i);
+        pixels = rows-ext (maximum d) (b .plane .pixels) (begins (lies (b .plane))) (rs r) (rs (p .h)) (b .plane .view .columns)
+            (b .plane .view .rows) (λ y x g f. ap (add-pixel (maximum d) _) (residual-same 𝓦 (quiet e p d s) (b .coefs) r l k y x)) i;
+        coefs = replicate n (pos 0) ++ drop n (b .coefs);
+      }

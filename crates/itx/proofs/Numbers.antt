@@ -19,8 +19,8 @@ use Rattle.levels.specs.Plans.{among, shift-0, shift-1, shift-2, shift-of, kind
 use Rattle.levels.proofs.Types.{by-types}
 use Rattle.strided.specs.Planes.{lies}
 use Rattle.residual.specs.Blocks.{Way, way}
-use Rattle.itx.specs.Calls.{Block, Call, plain, lengths-lines, range-line, stray-line, pixel-line, with-depth, table, verdict, short}
-use Rattle.itx.specs.Calls.{live-rows, by-shortcut, by-passes, outcome-of, outcome}
+use Rattle.checks.specs.Table.{Block, Call, plain, lengths-lines, range-line, stray-line, pixel-line, with-depth, table, verdict, short, live-rows}
+use Rattle.itx.specs.Calls.{by-shortcut, by-passes, outcome-of, outcome}
 
 -- ---- the number of a check
 

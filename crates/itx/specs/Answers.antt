@@ -1,43 +1,9 @@
 -- What the answers of the calls and of their checks say, in document 01's numbers.
-use mathlib.Core.List.{List}
-use Prim.Native.Nat.{ℕ}
-use lib.IntN.{ℤ}
-use Rattle.strided.specs.Planes.{Plane}
 use Rattle.whole.specs.Answers as Whole
-use Rattle.itx.specs.Calls.{Block}
+use Rattle.checks.specs.Refusals.{number, place}
 use Rattle.itx.specs.declared.Answer.{Answer}
 use Rattle.itx.specs.declared.Answer.the-variants.{Done, Refused}
-use Rattle.itx.specs.declared.Refusal.{Refusal}
-use Rattle.itx.specs.declared.Refusal.the-variants.{NoSize, NoType, NoDepth, NegativeEob, NoSuchRows, FewCoefficients, NotVisible, BadStride}
-use Rattle.itx.specs.declared.Refusal.the-variants.{RowOutside, OutOfRange, Stray, AboveMaximum}
-
--- the table of "Numbers of refusal": the number, and the place: "9 and 10 carry the place of the first offender .. others carry 0"; so does
--- 21 (E6)
-abbrev pub listed : Refusal → ℕ × ℕ
-listed NoSize = (1, 0)
-listed NoType = (2, 0)
-listed NoDepth = (3, 0)
-listed NegativeEob = (4, 0)
-listed NoSuchRows = (5, 0)
-listed FewCoefficients = (6, 0)
-listed NotVisible = (20, 0)
-listed BadStride = (7, 0)
-listed RowOutside = (8, 0)
-listed (OutOfRange i) = (9, i)
-listed (Stray i) = (10, i)
-listed (AboveMaximum i) = (21, i)
-
-abbrev pub number : Refusal → ℕ
-number r = listed r .0
-
-abbrev pub place : Refusal → ℕ
-place r = listed r .1
 
 abbrev pub answer-of : Answer → Whole.Answer
 answer-of (Done mark) = Whole.acceptance mark
 answer-of (Refused r) = Whole.refusal (number r) (place r)
-
--- ---- the block that a call is given
-
-abbrev pub block : ℕ → ℕ → ℕ → ℕ → List ℤ → Plane → Block
-block w h type depth coefs plane = record { w = w; h = h; type = type; depth = depth; coefs = coefs; plane = plane }

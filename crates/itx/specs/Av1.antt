@@ -11,7 +11,8 @@ use Rattle.bitdepth.specs.Depths.{bit-depth}
 use Rattle.levels.specs.declared.Plan.{Plan}
 use Rattle.residual.specs.Blocks.{Way}
 use Rattle.levels.specs.Manners.{if-wht}
-use Rattle.itx.specs.Calls.{Block, Outcome, by-passes}
+use Rattle.checks.specs.Table.{Block}
+use Rattle.itx.specs.Calls.{Outcome, by-passes}
 
 -- held to this many bits
 abbrev pub held : ℕ → ℤ → ℤ

@@ -12,8 +12,9 @@ use Rattle.whole.proofs.Counts.{tab-length}
 use Rattle.whole.specs.Answers.{Answer}
 use Rattle.strided.specs.Planes.{lent, whole}
 use Rattle.strided.specs.declared.View.{View}
-use Rattle.itx.specs.Calls.{Outcome, plain, live, outcome, Meets}
-use Rattle.itx.specs.Answers as Answers
+use Rattle.itx.specs.Calls.{Outcome, outcome, Meets}
+use Rattle.checks.specs.Table.{plain, live}
+use Rattle.checks.specs.Table as Table
 use Rattle.blockfile.specs.Record.{area}
 use Rattle.blockfile.specs.declared.record.Head.{Head}
 use Rattle.levels.proofs.Sizes.{side-bounds}
@@ -30,10 +31,10 @@ narrow {h} r = sides-most (h .w) (h .h) (r .size) .0
 
 module _ {h : Head} {cs : List ℤ} {ps : List ℕ} {view : View} (view-is : view ≡ whole (h .w) (h .h)) where
   pub acted-plain : {cs′ : List ℤ} {ps′ : List ℕ} {eob : ℤ} {a : Answer} → eob ≡ pos (h .announced)
-      → Meets (outcome (plain eob) (Answers.block (h .w) (h .h) (h .txtp) (h .depth) cs (lent ps view))) a ps′ cs′ → Acted 1 h cs ps cs′ ps′ a
+      → Meets (outcome (plain eob) (Table.block (h .w) (h .h) (h .txtp) (h .depth) cs (lent ps view))) a ps′ cs′ → Acted 1 h cs ps cs′ ps′ a
   acted-plain {eob} f m =
-      let same : outcome (plain eob) (Answers.block (h .w) (h .h) (h .txtp) (h .depth) cs (lent ps view)) ≡ call 1 (block-of h cs ps) =
-      (λ i. outcome (plain (f i)) (Answers.block (h .w) (h .h) (h .txtp) (h .depth) cs (lent ps (view-is i)))) in
+      let same : outcome (plain eob) (Table.block (h .w) (h .h) (h .txtp) (h .depth) cs (lent ps view)) ≡ call 1 (block-of h cs ps) =
+      (λ i. outcome (plain (f i)) (Table.block (h .w) (h .h) (h .txtp) (h .depth) cs (lent ps (view-is i)))) in
       record {
         answer = m .answer-is ∙ ap (λ (o : Outcome). o .answer) same;
         pixels-left = m .pixels-are ∙ ap (λ (o : Outcome). o .pixels) same;
@@ -42,17 +43,17 @@ module _ {h : Head} {cs : List ℤ} {ps : List ℕ} {view : View} (view-is : vie
 
   -- `block` holds the rows in the buffer's order; they become zero if the call was accepted
   pub acted-live : {block block′ : List ℤ} {ps′ : List ℕ} {a : Answer} → block ≡ spread (h .w) (h .h) (h .announced) cs
-      → Meets (outcome (live (h .announced)) (Answers.block (h .w) (h .h) (h .txtp) (h .depth) block (lent ps view))) a ps′ block′
+      → Meets (outcome (live (h .announced)) (Table.block (h .w) (h .h) (h .txtp) (h .depth) block (lent ps view))) a ps′ block′
       → (cs′ : List ℤ) → (a .number ≡ 0 → cs′ ≡ replicate (h .announced * h .w) (pos 0)) → Acted 2 h cs ps cs′ ps′ a
   acted-live {block} {a} f m cs′ zeros =
-      let same : outcome (live (h .announced)) (Answers.block (h .w) (h .h) (h .txtp) (h .depth) block (lent ps view)) ≡ call 2 (block-of h cs ps) =
-      (λ i. outcome (live (h .announced)) (Answers.block (h .w) (h .h) (h .txtp) (h .depth) (f i) (lent ps (view-is i)))) in
+      let same : outcome (live (h .announced)) (Table.block (h .w) (h .h) (h .txtp) (h .depth) block (lent ps view)) ≡ call 2 (block-of h cs ps) =
+      (λ i. outcome (live (h .announced)) (Table.block (h .w) (h .h) (h .txtp) (h .depth) (f i) (lent ps (view-is i)))) in
       let answer : a ≡ call 2 (block-of h cs ps) .answer = m .answer-is ∙ ap (λ (o : Outcome). o .answer) same in record {
         answer = answer;
         pixels-left = m .pixels-are ∙ ap (λ (o : Outcome). o .pixels) same;
         coefficients-left = λ z.
             zeros z ∙ sym (gathered-zero (h .w) (h .h) (h .announced) (call 2 (block-of h cs ps) .coefs)
-            (left-zero (Answers.block (h .w) (h .h) (h .txtp) (h .depth) (spread (h .w) (h .h) (h .announced) cs)
+            (left-zero (Table.block (h .w) (h .h) (h .txtp) (h .depth) (spread (h .w) (h .h) (h .announced) cs)
             (lent ps (whole (h .w) (h .h)))) (h .announced)
             (tab-length (h .w * h .h) _) (sym (ap (λ (a : Answer). a .number) answer) ∙ z)));
       }
@@ -91,7 +92,7 @@ module _ {v : ℕ} (e : eqb v 2 ≡ false) {h : Head} {cs : List ℤ} where
   acted-1 {ps} x =
       let h′ = spread (h .w) (h .h) (h .announced) in let same : call 1 (block-of h cs ps) ≡ call v (block-of h cs ps) =
       sym (λ i. outcome (cond (e i) (live (h .announced)) (plain (pos (h .announced))))
-      (Answers.block (h .w) (h .h) (h .txtp) (h .depth) (cond (e i) (h′ cs) cs) (lent ps (whole (h .w) (h .h))))) in
+      (Table.block (h .w) (h .h) (h .txtp) (h .depth) (cond (e i) (h′ cs) cs) (lent ps (whole (h .w) (h .h))))) in
       record {
         answer = x .answer ∙ ap (λ (o : Outcome). o .answer) same;
         pixels-left = x .pixels-left ∙ ap (λ (o : Outcome). o .pixels) same;

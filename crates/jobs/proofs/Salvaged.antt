@@ -29,11 +29,11 @@ use Rattle.coefs.specs.Coefs.{Covers}
 use Rattle.strided.specs.Planes.{bad-view, bad-stride, whole, lies}
 use Rattle.strided.specs.declared.Width.the-variants.{Wide}
 use Rattle.pixels.proofs.Above.{no-above}
-use Rattle.itx.specs.Calls.{Call, lengths-lines, plain, live, bad-eob, bad-rows, stray, verdict, range-line, stray-line, table}
-use Rattle.itx.proofs.Verdicts.{then-same, planned-at}
-use Rattle.itx.proofs.Covering.{strays-none}
+use Rattle.checks.specs.Table.{Call, lengths-lines, plain, live, bad-eob, bad-rows, stray, verdict, range-line, stray-line, table}
+use Rattle.checks.proofs.Verdicts.{then-same, planned-at}
+use Rattle.checks.proofs.Covering.{strays-none}
 use Rattle.demands.proofs.Visible.{whole-spotted}
-use Rattle.itx.proofs.Narrow.{left-out}
+use Rattle.checks.proofs.Narrow.{left-out}
 use Rattle.demands.specs.Widths.{one-of}
 use Rattle.itx.proofs.Numbers.{num, answer-num, By, num-by, then-by, judged-by, depth-by, planned-by, early, late, passed, past-8}
 use Rattle.blockfile.specs.Form.{number, write-each, Each}

@@ -12,10 +12,11 @@ use Rattle.bitdepth.specs.declared.Depth.{Depth}
 use Rattle.levels.specs.declared.Plan.{Plan}
 use Rattle.levels.proofs.Sizes.{plan-of}
 use Rattle.residual.specs.Blocks.{way}
-use Rattle.itx.specs.Calls.{Block, live, verdict, outcome-of, outcome}
-use Rattle.itx.proofs.Painting.{zeros-at}
+use Rattle.checks.specs.Table.{Block, live, verdict}
+use Rattle.itx.specs.Calls.{outcome-of, outcome}
+use Rattle.ways.proofs.Painting.{zeros-at}
 use Rattle.itx.proofs.Numbers.{refusal-number}
-use Rattle.itx.proofs.Verdicts.{accepted-by}
+use Rattle.checks.proofs.Verdicts.{accepted-by}
 use Rattle.jobs.specs.Rows.{gathered}
 
 pub left-zero : (b : Block) (r : ℕ) → length (b .coefs) ≡ b .w * b .h → outcome (live r) b .answer .number ≡ 0

@@ -6,9 +6,9 @@ use Prim.Native.Nat.{ℕ, suc}
 use lib.Dec.{eqb}
 use lib.IntN.{pos}
 use Rattle.strided.specs.Planes.{lent, whole}
-use Rattle.itx.specs.Calls.{Call, plain, live, Outcome, outcome}
-use Rattle.itx.specs.Calls as Calls
-use Rattle.itx.specs.Answers as Answers
+use Rattle.checks.specs.Table.{Call, plain, live}
+use Rattle.itx.specs.Calls.{Outcome, outcome}
+use Rattle.checks.specs.Table as Table
 use Rattle.blockfile.specs.Form.{number}
 use Rattle.blockfile.specs.Record.{Block, form}
 use Rattle.blockfile.specs.declared.record.Head.{Head}
@@ -21,10 +21,10 @@ use Rattle.jobs.specs.Task.{Written, both, nothing, Done, done, bad, End
 abbrev pub call-for : ℕ → Head → Call
 call-for v h = cond (eqb v 2) (live (h .announced)) (plain (pos (h .announced)))
 
-abbrev pub given : ℕ → Block → Calls.Block
+abbrev pub given : ℕ → Block → Table.Block
 given v b =
     let h = b .head in
-    Answers.block (h .w) (h .h) (h .txtp) (h .depth) (buffered v h (b .coefficients)) (lent (b .pixels) (whole (h .w) (h .h)))
+    Table.block (h .w) (h .h) (h .txtp) (h .depth) (buffered v h (b .coefficients)) (lent (b .pixels) (whole (h .w) (h .h)))
 
 abbrev pub call : ℕ → Block → Outcome
 call v b = outcome (call-for v (b .head)) (given v b)

@@ -7,7 +7,7 @@ use Rattle.whole.specs.Checks.{Line}
 use Rattle.bitdepth.specs.declared.Depth.{Depth}
 use Rattle.levels.specs.declared.Plan.{Plan}
 use Rattle.strided.specs.Planes.{lies}
-use Rattle.itx.specs.Calls.{pixel-line}
+use Rattle.checks.specs.Table.{pixel-line}
 use Rattle.blockfile.specs.Form.{number}
 use Rattle.blockfile.specs.Record.{Block, form}
 use Rattle.blockfile.specs.File.{known}

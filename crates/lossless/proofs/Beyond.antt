@@ -8,7 +8,7 @@ use borrow.Author.Tests.{le-ltb}
 use lib.Dec.{ltb}
 use lib.IntN.{ℤ, pos, _*ℤ_}
 use lib.ListN.{length}
-use Rattle.whole.specs.Lists.{at, first}
+use Rattle.whole.specs.Lists.{at}
 use Rattle.whole.specs.Checks.{Check, accept, refuse, then, unless, unless-at}
 use Rattle.whole.proofs.Counts.{tab-ext, first-ext}
 use Rattle.bitdepth.specs.Depths.{depth}

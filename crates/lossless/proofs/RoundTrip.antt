@@ -28,8 +28,9 @@ use Rattle.residual.specs.Inner.{wht-plan}
 use Rattle.pixels.specs.Adds.{add-pixel}
 use Rattle.itx_1d.specs.Passes.{pass}
 use Rattle.whole.specs.Answers.{Answer, acceptance}
-use Rattle.itx.specs.Calls.{Block, plain, outcome, short}
-use Rattle.itx.specs.Accepted.{Accepted}
+use Rattle.checks.specs.Table.{Block, plain, short}
+use Rattle.itx.specs.Calls.{outcome}
+use Rattle.checks.specs.Accepted.{Accepted}
 use Rattle.demands.specs.Demands.{addend}
 use Rattle.demands.proofs.Outcomes.{answer-is, pixel-rule}
 use Rattle.lossless.specs.declared.Written.the-variants.{Done}

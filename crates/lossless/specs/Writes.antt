@@ -14,8 +14,7 @@ use Rattle.bitdepth.specs.Depths.{depth, maximum}
 use Rattle.itx_1d.specs.Passes.{wht}
 use Rattle.whole.specs.Answers.{Answer, refusal, acceptance, Outcome, outcome-of}
 use Rattle.strided.specs.Planes.{Plane}
-use Rattle.itx.specs.Calls.{Block}
-use Rattle.itx.specs.Answers.{block}
+use Rattle.checks.specs.Table.{Block, block}
 use Rattle.lossless.specs.declared.Written.{Written}
 use Rattle.lossless.specs.declared.Written.the-variants.{Done, NoDepth, ShortBuffer, OutOfBounds}
 

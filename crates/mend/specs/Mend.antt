@@ -13,7 +13,7 @@ use Rattle.bitdepth.specs.declared.Depth.{Depth}
 use Rattle.bitdepth.specs.Depths.{depth, row-range, maximum}
 use Rattle.levels.specs.declared.Plan.{Plan}
 use Rattle.levels.specs.Plans.{plan}
-use Rattle.itx.specs.Calls.{with-depth}
+use Rattle.checks.specs.Table.{with-depth}
 use Rattle.blockfile.specs.Record.{Block}
 use Rattle.blockfile.specs.declared.record.Head.{Head}
 use Rattle.text.specs.Text.{decimal, signed, line}

@@ -1,61 +1,10 @@
--- A depth's ranges as the code holds them.
-use mathlib.Core.Path.{_≡_, refl, sym, ap, _∙_, subst⁻¹}
-use Prim.Native.Nat.{ℕ, suc, _-_, _≤_, _<_}
-use native.Mathlib.Nat.{le-trans}
-use native.Mathlib.Omega.{arith}
-use lib.Dec.{lit≤}
-use lib.IntN.{ℤ, natAbs}
-use mir.Syntax.{w32}
-use mir.Val.{toZ, ofZ}
-use mir.ValLaws.{toZ-ofZ}
+-- A depth's ranges are ranges of a pass.
+use mathlib.Core.Path.{sym, ap, subst⁻¹}
+use Prim.Native.Nat.{ℕ, _≤_}
 use Rattle.whole.specs.Numbers.{low, high}
-use Rattle.whole.proofs.Sizes.{abs-fits}
 use Rattle.levels.specs.declared.Kind.{Kind}
 use Rattle.itx_1d.specs.Inner.{Limited}
-use Rattle.bitdepth.specs.declared.Depth.{Depth}
-use Rattle.bitdepth.specs.declared.Depth.the-variants.{Eight, Ten, Twelve}
-use Rattle.bitdepth.specs.declared.Range.{Range}
-use Rattle.bitdepth.specs.Depths.{row-range, column-range}
-use Rattle.bitdepth.specs.Inner.{ends}
+use Rattle.bitdepth.proofs.Ends.{Reach, size}
 
--- the m of a range
-pub record Reach (m : ℕ) : Type 0 where
-  pub some : 0 < m
-  pub small : m ≤ 524288
-
-pub row-reach : (d : Depth) → Reach (row-range d)
-row-reach Eight = record { some = lit≤ tt; small = lit≤ tt }
-row-reach Ten = record { some = lit≤ tt; small = lit≤ tt }
-row-reach Twelve = record { some = lit≤ tt; small = lit≤ tt }
-
-pub column-reach : (d : Depth) → Reach (column-range d)
-column-reach Eight = record { some = lit≤ tt; small = lit≤ tt }
-column-reach Ten = record { some = lit≤ tt; small = lit≤ tt }
-column-reach Twelve = record { some = lit≤ tt; small = lit≤ tt }
-
-module _ {m : ℕ} (g : Reach m) where
-  pub size : natAbs (low m) ≡ m
-  size = let e : suc (m - 1) ≡ m = omega (arith, g .some) in e
-
-  low-held : toZ w32 (ofZ w32 (low m)) ≡ low m
-  low-held = let l : suc (m - 1) ≤ 524288 = omega (arith, g .some, g .small) in toZ-ofZ w32 (low m) (abs-fits {n = 524288} l tt)
-
-  high-held : toZ w32 (ofZ w32 (high m)) ≡ high m
-  high-held = let l : m - 1 ≤ 524288 = omega (arith, g .small) in toZ-ofZ w32 (high m) (abs-fits {n = 524288} l tt)
-
-  pub limited : (k : Kind) → Limited k (low m) (high m)
-  limited k t = record { low-is = ap low (sym size); high-is = ap high (sym size); small = subst⁻¹ (λ (n : ℕ). n ≤ 524288) size (g .small) }
-
-  -- the ends that a local range holds
-  module _ {r : Range} (e : r ≡ ends m) where
-    pub lo-is : toZ w32 (ofZ w32 (r .lo)) ≡ low m
-    lo-is = ap (λ (q : Range). toZ w32 (ofZ w32 (q .lo))) e ∙ low-held
-
-    pub hi-is : toZ w32 (ofZ w32 (r .hi)) ≡ high m
-    hi-is = ap (λ (q : Range). toZ w32 (ofZ w32 (q .hi))) e ∙ high-held
-
-    pub as-held : (F : ℤ → ℤ → Type 0) → F (low m) (high m) → F (toZ w32 (ofZ w32 (r .lo))) (toZ w32 (ofZ w32 (r .hi)))
-    as-held F f = subst⁻¹ (λ (z : ℤ). F z (toZ w32 (ofZ w32 (r .hi)))) lo-is (subst⁻¹ (λ (z : ℤ). F (low m) z) hi-is f)
-
-    pub m-is : natAbs (toZ w32 (ofZ w32 (r .lo))) ≡ m
-    m-is = ap natAbs lo-is ∙ size
+pub limited : {m : ℕ} → Reach m → (k : Kind) → Limited k (low m) (high m)
+limited g k t = record { low-is = ap low (sym (size g)); high-is = ap high (sym (size g)); small = subst⁻¹ (λ (n : ℕ). n ≤ 524288) (size g) (g .small) }

@@ -24,11 +24,12 @@ use Rattle.strided.specs.Planes.{bad-view, bad-stride, row-outside, lies}
 use Rattle.strided.proofs.Rows.{rows-in}
 use Rattle.pixels.specs.Above.{first-above}
 use Rattle.whole.specs.Answers.{Answer}
-use Rattle.itx.specs.Calls.{Block, Call, plain, live, bad-eob, bad-rows, out-of-range, stray, table, checked, verdict, spec-verdict, with-adst}
-use Rattle.itx.specs.Calls.{short, outcome-of, by-shortcut, by-passes, live-rows, outcome, Outcome, Meets}
+use Rattle.checks.specs.Table.{Block, Call, plain, live, bad-eob, bad-rows, out-of-range, stray, table, checked, verdict, spec-verdict, with-adst}
+use Rattle.checks.specs.Table.{short, live-rows}
+use Rattle.itx.specs.Calls.{outcome-of, by-shortcut, by-passes, outcome, Outcome, Meets}
 use Rattle.itx.specs.Av1.{av1-way}
 use Rattle.itx.specs.Spec.{spec-outcome}
-use Rattle.itx.proofs.Verdicts.{by-plan}
+use Rattle.checks.proofs.Verdicts.{by-plan}
 use Rattle.residual.specs.Blocks.{Way, way}
 use Rattle.sgrifomel.specs.Words.{packed, view, PacksBlock}
 use Rattle.sgrifomel.proofs.Places.{first-below, Small, small-unless, small-at}

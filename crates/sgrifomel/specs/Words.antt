@@ -8,8 +8,7 @@ use Rattle.strided.specs.Planes.{lent, lent-8}
 use Rattle.strided.specs.declared.View.{View}
 use Rattle.whole.specs.Answers.{Answer, Outcome}
 use Rattle.itx.specs.Calls as Blocks
-use Rattle.itx.specs.Calls.{Block}
-use Rattle.itx.specs.Answers.{block}
+use Rattle.checks.specs.Table.{Block, block}
 
 -- the number in bits 0 to 7, the mark in bit 8, the place from bit 16 up
 abbrev pub packed : Answer → ℕ

@@ -6,6 +6,7 @@ ghost use Rattle.levels.specs.Sides.{of4, of8, of16, of32};
 ghost use Rattle.itx_1d.specs.Calls as Calls;
 ghost use Rattle.levels.specs.declared.Kind.the-variants.{Dct, Identity, Adst, FlipAdst};
 ghost use Rattle.itx.specs.Calls as Blocks;
+ghost use Rattle.checks.specs.Table.{plain, live};
 ghost use Rattle.itx.specs.Spec.{spec-outcome};
 ghost use Rattle.itx.specs.Answers as Answers;
 ghost use Rattle.sgrifomel.specs.Words.{packed, view, wide, narrow, Packs, Leaves};
@@ -222,7 +223,7 @@ pub extern "C" fn sgrifomel_inv_txfm_add(
     txtp: usize,
     depth: usize,
 ) -> u64
-    ensures { λ r. ⌜ Leaves (Blocks.outcome (Blocks.plain eob)) (wide w h txtp depth (view offset stride columns rows)) r
+    ensures { λ r. ⌜ Leaves (Blocks.outcome (plain eob)) (wide w h txtp depth (view offset stride columns rows)) r
         (now (dst .entry)) (now (coeff .entry)) (now (dst .exit)) (now (coeff .exit)) ⌝ }
 {
     let view = view_of(offset, stride, columns, rows);
@@ -243,7 +244,7 @@ pub extern "C" fn sgrifomel_inv_txfm_add_live(
     txtp: usize,
     depth: usize,
 ) -> u64
-    ensures { λ a. ⌜ Leaves (Blocks.outcome (Blocks.live r)) (wide w h txtp depth (view offset stride columns rows)) a
+    ensures { λ a. ⌜ Leaves (Blocks.outcome (live r)) (wide w h txtp depth (view offset stride columns rows)) a
         (now (dst .entry)) (now (coeff .entry)) (now (dst .exit)) (now (coeff .exit)) ⌝ }
 {
     let view = view_of(offset, stride, columns, rows);
@@ -263,7 +264,7 @@ pub extern "C" fn sgrifomel_inv_txfm_add_8bpc(
     h: usize,
     txtp: usize,
 ) -> u64
-    ensures { λ r. ⌜ Leaves (Blocks.outcome (Blocks.plain eob)) (narrow w h txtp (view offset stride columns rows)) r
+    ensures { λ r. ⌜ Leaves (Blocks.outcome (plain eob)) (narrow w h txtp (view offset stride columns rows)) r
         (now (dst .entry)) (now (coeff .entry)) (now (dst .exit)) (now (coeff .exit)) ⌝ }
 {
     let view = view_of(offset, stride, columns, rows);
@@ -283,7 +284,7 @@ pub extern "C" fn sgrifomel_inv_txfm_add_live_8bpc(
     h: usize,
     txtp: usize,
 ) -> u64
-    ensures { λ a. ⌜ Leaves (Blocks.outcome (Blocks.live r)) (narrow w h txtp (view offset stride columns rows)) a
+    ensures { λ a. ⌜ Leaves (Blocks.outcome (live r)) (narrow w h txtp (view offset stride columns rows)) a
         (now (dst .entry)) (now (coeff .entry)) (now (dst .exit)) (now (coeff .exit)) ⌝ }
 {
     let view = view_of(offset, stride, columns, rows);
@@ -304,7 +305,7 @@ pub extern "C" fn sgrifomel_spec_inv_txfm_add(
     txtp: usize,
     depth: usize,
 ) -> u64
-    ensures { λ r. ⌜ Leaves (spec-outcome (Blocks.plain eob)) (wide w h txtp depth (view offset stride columns rows)) r
+    ensures { λ r. ⌜ Leaves (spec-outcome (plain eob)) (wide w h txtp depth (view offset stride columns rows)) r
         (now (dst .entry)) (now (coeff .entry)) (now (dst .exit)) (now (coeff .exit)) ⌝ }
 {
     let view = view_of(offset, stride, columns, rows);
@@ -325,7 +326,7 @@ pub extern "C" fn sgrifomel_spec_inv_txfm_add_live(
     txtp: usize,
     depth: usize,
 ) -> u64
-    ensures { λ a. ⌜ Leaves (spec-outcome (Blocks.live r)) (wide w h txtp depth (view offset stride columns rows)) a
+    ensures { λ a. ⌜ Leaves (spec-outcome (live r)) (wide w h txtp depth (view offset stride columns rows)) a
         (now (dst .entry)) (now (coeff .entry)) (now (dst .exit)) (now (coeff .exit)) ⌝ }
 {
     let view = view_of(offset, stride, columns, rows);

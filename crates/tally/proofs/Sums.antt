@@ -20,14 +20,13 @@ use Rattle.levels.specs.Plans.{TxType, types, kinds-at, kinds-in, kinds-of, pla
 use Rattle.levels.proofs.Types.{all}
 use Rattle.levels.proofs.Sizes.{plan-of, shift-sided}
 use Rattle.bitdepth.specs.declared.Depth.{Depth}
-use Rattle.itx.specs.Calls.{Block, Call, verdict, outcome}
-use Rattle.itx.proofs.Verdicts.{accepted-by}
+use Rattle.checks.specs.Table.{Block, Call, verdict}
+use Rattle.itx.specs.Calls.{outcome}
+use Rattle.checks.proofs.Verdicts.{accepted-by}
 use Rattle.itx.proofs.Numbers.{num, answer-num, refusal-number}
 use Rattle.blockfile.specs.Form.{Each}
-use Rattle.tally.specs.Totals.{Tally, sum, greatest, one-if, moves, is-of, totals, _⊕_, all-cells}
-use Rattle.tally.specs.Totals.{cells, cell-w, cell-h, cell-type, in-cell}
-use Rattle.tally.specs.Inner.{Countable}
-use Rattle.tally.specs.Inner.{Rank, CellOf}
+use Rattle.tally.specs.Totals.{Tally, sum, greatest, one-if, moves, is-of, totals, _⊕_, all-cells, cells, cell-w, cell-h, cell-type, in-cell}
+use Rattle.tally.specs.Inner.{Countable, Rank, CellOf}
 
 pub sum-append : {A : Type 0} (f : A → ℕ) (xs ys : List A) → sum f (xs ++ ys) ≡ sum f xs + sum f ys
 sum-append f [] ys = sym (zero-add (sum f ys))

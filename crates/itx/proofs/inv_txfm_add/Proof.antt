@@ -4,8 +4,7 @@ use mir.Syntax.{w32}
 use mir.ValLaws.{toZ-ofZ}
 use borrow.Author.Needs.{needs}
 use Rattle.strided.specs.Planes.{lent}
-use Rattle.itx.specs.Calls.{Block, plain}
-use Rattle.itx.specs.Answers.{block}
+use Rattle.checks.specs.Table.{Block, plain, block}
 use Rattle.itx.proofs.Engines.{allowed-first, first-meets}
 use Rattle.itx.proofs.inv_txfm_add.Statement.{statement}
 use Rattle.itx.proofs.inv_txfm_add.Tie as tie

@@ -5,8 +5,8 @@ use mir.Syntax.{w32}
 use mir.ValLaws.{toZ-ofZ}
 use borrow.Author.Needs.{needs}
 use Rattle.strided.specs.Planes.{lent-8}
-use Rattle.itx.specs.Calls.{Block, plain, outcome}
-use Rattle.itx.specs.Answers.{block}
+use Rattle.checks.specs.Table.{Block, plain, block}
+use Rattle.itx.specs.Calls.{outcome}
 use Rattle.itx.proofs.Accepted.{met}
 use Rattle.itx.proofs.inv_txfm_add_8bpc.Statement.{statement}
 use Rattle.itx.proofs.inv_txfm_add_8bpc.Tie as tie

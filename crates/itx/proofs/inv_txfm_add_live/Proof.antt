@@ -2,8 +2,7 @@
 use mathlib.Core.Path.{refl}
 use borrow.Author.Needs.{needs}
 use Rattle.strided.specs.Planes.{lent}
-use Rattle.itx.specs.Calls.{Block, live}
-use Rattle.itx.specs.Answers.{block}
+use Rattle.checks.specs.Table.{Block, live, block}
 use Rattle.itx.proofs.Engines.{allowed-first, first-meets}
 use Rattle.itx.proofs.inv_txfm_add_live.Statement.{statement}
 use Rattle.itx.proofs.inv_txfm_add_live.Tie as tie

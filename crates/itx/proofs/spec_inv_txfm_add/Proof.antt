@@ -6,9 +6,8 @@ use mir.ValLaws.{toZ-ofZ}
 use borrow.Author.Needs.{needs}
 use Rattle.strided.specs.Planes.{lent}
 use Rattle.levels.specs.Plans.{plan}
-use Rattle.itx.specs.Calls.{Block, plain}
-use Rattle.itx.specs.Answers.{block}
-use Rattle.itx.specs.Inner.{adst-planned}
+use Rattle.checks.specs.Table.{Block, plain, block}
+use Rattle.checks.specs.Inner.{adst-planned}
 use Rattle.itx.proofs.Engines.{allowed-spec, spec-meets, spec-refused}
 use Rattle.itx.proofs.spec_inv_txfm_add.Statement.{statement}
 use Rattle.itx.proofs.spec_inv_txfm_add.Tie as tie

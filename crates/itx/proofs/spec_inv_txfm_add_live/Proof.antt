@@ -4,9 +4,8 @@ use mathlib.Core.Bool.{Bool}
 use borrow.Author.Needs.{needs}
 use Rattle.strided.specs.Planes.{lent}
 use Rattle.levels.specs.Plans.{plan}
-use Rattle.itx.specs.Calls.{Block, live}
-use Rattle.itx.specs.Answers.{block}
-use Rattle.itx.specs.Inner.{adst-planned}
+use Rattle.checks.specs.Table.{Block, live, block}
+use Rattle.checks.specs.Inner.{adst-planned}
 use Rattle.itx.proofs.Engines.{allowed-spec, spec-meets, spec-refused}
 use Rattle.itx.proofs.spec_inv_txfm_add_live.Statement.{statement}
 use Rattle.itx.proofs.spec_inv_txfm_add_live.Tie as tie

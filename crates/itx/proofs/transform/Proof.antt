@@ -6,14 +6,14 @@ use Rattle.bitdepth.specs.declared.Depth.{Depth}
 use Rattle.levels.specs.declared.Plan.{Plan}
 use Rattle.strided.specs.declared.Width.the-variants.{Wide}
 use Rattle.strided.specs.Planes.{spot, lent}
-use Rattle.itx.specs.Calls.{Block, Call, short}
-use Rattle.itx.specs.Answers.{block}
-use Rattle.itx.specs.Inner.{verdict-of, call-of, Lies, Ready}
+use Rattle.checks.specs.Table.{Block, Call, short, block}
+use Rattle.checks.specs.Inner.{verdict-of, call-of, Lies}
+use Rattle.ways.specs.Inner.{Ready}
 use Rattle.residual.specs.Inner.{Served}
-use Rattle.itx.specs.Accepted as Accepts
+use Rattle.checks.specs.Accepted as Accepts
 use Rattle.itx.proofs.Accepted as Accepted
-use Rattle.itx.proofs.Covering.{h-positive}
-use Rattle.itx.proofs.Verdicts.{accepted-by}
+use Rattle.checks.proofs.Covering.{h-positive}
+use Rattle.checks.proofs.Verdicts.{accepted-by}
 use Rattle.itx.proofs.transform.Statement.{statement}
 use Rattle.itx.proofs.transform.Tie as tie
 

@@ -11,7 +11,7 @@ use Rattle.whole.specs.Checks.{Check}
 use Rattle.levels.specs.declared.Plan.{Plan}
 use Rattle.levels.specs.Plans.{plan}
 use Rattle.levels.proofs.Sizes.{side-bounds, plan-of, plan-sided}
-use Rattle.itx.specs.Inner.{Roomy}
+use Rattle.checks.specs.Inner.{Roomy}
 use Rattle.itx.proofs.transform_8bpc.Statement.{statement}
 use Rattle.itx.proofs.transform_8bpc.Tie as tie
 

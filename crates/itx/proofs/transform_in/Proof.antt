@@ -15,21 +15,21 @@ use Rattle.levels.specs.Plans.{plan}
 use Rattle.strided.specs.declared.Width.the-variants.{Narrow}
 use Rattle.strided.specs.Planes.{spot, lent-8}
 use Rattle.residual.specs.declared.Engine.the-variants.{First}
-use Rattle.itx.specs.declared.Refusal.{Refusal}
-use Rattle.itx.specs.declared.Verdict.{Verdict}
-use Rattle.itx.specs.declared.Verdict.the-variants.{Stop}
-use Rattle.itx.specs.Calls.{Block, Call, lengths-lines, range-line, stray-line, pixel-line, with-depth, short, verdict}
-use Rattle.itx.specs.Answers.{block}
-use Rattle.itx.specs.Inner.{verdict-of, call-of, Lies, Enough, RowsIn, Widened, Copied, Ready}
-use Rattle.itx.specs.Accepted as Accepts
+use Rattle.checks.specs.declared.Refusal.{Refusal}
+use Rattle.checks.specs.declared.Verdict.{Verdict}
+use Rattle.checks.specs.declared.Verdict.the-variants.{Stop}
+use Rattle.checks.specs.Table.{Block, Call, lengths-lines, range-line, stray-line, pixel-line, with-depth, short, verdict, block}
+use Rattle.checks.specs.Inner.{verdict-of, call-of, Lies, Enough, RowsIn, Widened, Copied}
+use Rattle.ways.specs.Inner.{Ready}
+use Rattle.checks.specs.Accepted as Accepts
 use Rattle.itx.proofs.Accepted as Accepted
-use Rattle.itx.proofs.Chain.{roomy}
-use Rattle.itx.proofs.Copies.{suits-copy}
-use Rattle.itx.proofs.Opening.{handed-on}
-use Rattle.itx.proofs.Covering.{h-positive}
+use Rattle.checks.proofs.Chain.{roomy}
+use Rattle.ways.proofs.Copies.{suits-copy}
+use Rattle.checks.proofs.Opening.{handed-on}
+use Rattle.checks.proofs.Covering.{h-positive}
 use Rattle.itx.proofs.Engines.{first-meets}
-use Rattle.itx.proofs.Verdicts.{accepted-by}
-use Rattle.itx.proofs.Narrow.{unasked, above-none}
+use Rattle.checks.proofs.Verdicts.{accepted-by}
+use Rattle.checks.proofs.Narrow.{unasked, above-none}
 use Rattle.itx.proofs.transform_in.Statement.{statement}
 use Rattle.itx.proofs.transform_in.Tie as tie
 

@@ -14,7 +14,7 @@ use Rattle.bitdepth.specs.declared.Depth.the-variants.{Eight}
 use Rattle.residual.specs.declared.Engine.the-variants.{First}
 use Rattle.residual.specs.Inner.{wht-plan, ResolvedIn}
 use Rattle.itx.proofs.Accepted.{sized}
-use Rattle.itx.proofs.Painting.{zeros-at}
+use Rattle.ways.proofs.Painting.{zeros-at}
 use Rattle.lossless.specs.Inner.{Sixteen, crossed}
 use Rattle.lossless.proofs.Crossing.{crossed-sixteen, crossed-back}
 use Rattle.lossless.proofs.encode.Statement.{statement}

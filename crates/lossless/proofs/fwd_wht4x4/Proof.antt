@@ -19,8 +19,7 @@ use Rattle.whole.proofs.Counts.{first-none}
 use Rattle.whole.proofs.Sizes.{abs-fits}
 use Rattle.bitdepth.specs.declared.Depth.{Depth}
 use Rattle.bitdepth.specs.declared.Depth.the-variants.{Eight, Ten, Twelve}
-use Rattle.bitdepth.specs.Depths.{depth, maximum}
-use Rattle.bitdepth.specs.Depths.{check-of}
+use Rattle.bitdepth.specs.Depths.{depth, maximum, check-of}
 use Rattle.intops.specs.declared.Found.{Found}
 use Rattle.intops.specs.Searches.{found}
 use Rattle.lossless.specs.declared.Written.{Written}

@@ -14,8 +14,8 @@ use Rattle.whole.specs.Numbers.{clip, outside, low, high}
 use Rattle.whole.specs.Lists.{at}
 use Rattle.bitdepth.specs.Depths.{row-range}
 use Rattle.bitdepth.specs.declared.Range.{Range}
-use Rattle.residual.proofs.Ends.{Reach, row-reach}
-use Rattle.residual.proofs.Ends as Ends
+use Rattle.bitdepth.proofs.Ends.{Reach, row-reach}
+use Rattle.bitdepth.proofs.Ends as Ends
 use Rattle.blockfile.proofs.Writing.{put-length}
 use Rattle.mend.specs.Mend.{moved, change-line}
 use Rattle.mend.proofs.Mending.{Mending, begin, as-long, finish, here, stays, moves, change-short}

@@ -13,7 +13,8 @@ use Rattle.whole.specs.Lists.{at}
 use Rattle.itx_1d.specs.Inner.{Limited}
 use Rattle.bitdepth.specs.Depths.{row-range, column-range}
 use Rattle.residual.specs.Inner.{fill, rounding, RowsBy, ColumnsBy}
-use Rattle.residual.proofs.Ends.{row-reach, column-reach, limited, lo-is, hi-is, as-held, m-is}
+use Rattle.bitdepth.proofs.Ends.{row-reach, column-reach, lo-is, hi-is, as-held, m-is}
+use Rattle.residual.proofs.Ends.{limited}
 use Rattle.residual.proofs.Fills.{fill-length, fill-after}
 use Rattle.residual.proofs.Places.{area, w-small}
 use Rattle.residual.proofs.Whole.{rowed-small, for-columns, resolved}

@@ -1,7 +1,7 @@
 -- `sgrifomel::bit` meets its contract.
-use mathlib.Core.Path.{_≡_, sym, ap}
+use mathlib.Core.Path.{sym, ap}
 use mathlib.Core.Bool.{Bool, cond}
-use Prim.Native.Nat.{ℕ, _*_}
+use Prim.Native.Nat.{_*_}
 use lib.Dec.{lit≤}
 use Rattle.sgrifomel.proofs.bit.Statement.{statement}
 use Rattle.sgrifomel.proofs.bit.Tie as tie

@@ -1,6 +1,7 @@
 -- `sgrifomel::sgrifomel_inv_txfm_add_live_8bpc` meets its contract.
 use borrow.Author.Needs.{needs}
-use Rattle.itx.specs.Calls.{live, outcome}
+use Rattle.checks.specs.Table.{live}
+use Rattle.itx.specs.Calls.{outcome}
 use Rattle.sgrifomel.specs.Words.{narrow}
 use Rattle.sgrifomel.proofs.Places.{packable}
 use Rattle.sgrifomel.proofs.Blocks.{small-block, packs-live}

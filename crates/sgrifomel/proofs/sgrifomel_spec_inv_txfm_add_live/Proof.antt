@@ -1,6 +1,6 @@
 -- `sgrifomel::sgrifomel_spec_inv_txfm_add_live` meets its contract.
 use borrow.Author.Needs.{needs}
-use Rattle.itx.specs.Calls.{live}
+use Rattle.checks.specs.Table.{live}
 use Rattle.itx.specs.Spec.{spec-outcome}
 use Rattle.sgrifomel.specs.Words.{wide}
 use Rattle.sgrifomel.proofs.Places.{packable}
