@@ -19,7 +19,7 @@ module _ {t : List ℤ} {from : ℕ} {f : ℕ → ℤ} where
       → Filled t from 1 f (k + 1) (set u i v)
   filled-more {k} {u} {v} h i e l is = record {
     own = λ a j p b. last-or-less j k (λ (n : ℕ). a ≡ from + n * 1 → at (set u i v) a ≡ f n) (omega arith)
-        (λ q. ap (at (set u i v)) (omega arith) ∙ getD-set-same u i v (pos 0) (omega (arith, h .long)) ∙ is)
+        (λ q. ap (at (set u i v)) (omega arith) ∙ getD-set-same u i v (pos 0) (omega arith) ∙ is)
         (λ g q. getD-set-other u i a v (pos 0) (λ z. omega arith) ∙ h .own a j q g) p;
     other = λ a d. getD-set-other u i a v (pos 0) (λ z. d k (omega arith) (omega arith)) ∙ h .other a (λ j b. d j (omega arith));
     long = length-set u i v ∙ h .long;

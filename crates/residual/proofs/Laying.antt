@@ -56,7 +56,8 @@ module _ {n w : ℕ} {f : ℕ → ℕ → ℤ} {t : List ℤ} where
   laid-none long = record { rows = λ i l h g. (let x : ⊥ = omega arith in absurd x); long = long }
 
   -- one row more
-  pub laid-more : {k : ℕ} {u : List ℤ} → len (side n) ≡ n → k < n → w ≤ 32 → Laid n w k f t → Filled t (source n k * 32) 1 (f k) w u → Laid n w (k + 1) f u
+  pub laid-more : {k : ℕ} {u : List ℤ} → len (side n) ≡ n → k < n → w ≤ 32 → Laid n w k f t
+      → Filled t (source n k * 32) 1 (f k) w u → Laid n w (k + 1) f u
   laid-more {k} {u} e below narrow so-far is = record {
     rows = λ i l h g. last-or-less i k (λ (j : ℕ). at u (source n j * 32 + l) ≡ f j l) (omega arith)
         (is .own (source n k * 32 + l) l (omega arith) g)

@@ -16,8 +16,8 @@ use Rattle.whole.proofs.Counts.{tab-ext}
 use Rattle.levels.specs.Sides.{len, side}
 use Rattle.itx_1d.specs.Passes.{Passed}
 use Rattle.itx_1d.specs.Calls.{taken, put}
-use Rattle.itx_1d.specs.Inner.{Passable}
-use Rattle.residual.specs.Inner.{Filled, Made}
+use Rattle.itx_1d.specs.Inner.{Passable, Made}
+use Rattle.residual.specs.Inner.{Filled}
 use Rattle.itx_1d.proofs.Strides.{length-put, kept, put-at, not-0}
 
 -- the part of t from x on

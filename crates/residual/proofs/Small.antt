@@ -39,4 +39,4 @@ unfolding Rattle.whole.specs.Numbers.round2 Rattle.whole.specs.Numbers._>>_
 rounded-small v zero l g = l
 rounded-small v (suc zero) l g = le-trans (bound (v ∷ []) (524288 ∷ []) (l, tt) (var 0 ⊕ lit (pos 1) ≫ 1)) (lit≤ tt)
 rounded-small v (suc (suc zero)) l g = le-trans (bound (v ∷ []) (524288 ∷ []) (l, tt) (var 0 ⊕ lit (pos 2) ≫ 2)) (lit≤ tt)
-rounded-small v (suc (suc (suc k))) l g = omega (arith, g)
+rounded-small v (suc (suc (suc k))) l g = omega arith

@@ -14,18 +14,13 @@ use Rattle.levels.specs.Sides.{len, side}
 use Rattle.levels.specs.declared.Kind.{Kind}
 use Rattle.levels.specs.declared.Plan.{Plan}
 use Rattle.itx_1d.specs.Passes.{Passed, pass}
-use Rattle.itx_1d.specs.Inner.{PassIs, Passable}
+use Rattle.itx_1d.specs.Inner.{Passable, Made}
 use Rattle.residual.specs.declared.Engine.{Engine}
-use Rattle.residual.specs.declared.Engine.the-variants.{First}
 use Rattle.residual.specs.Blocks.{passed-by}
-use Rattle.residual.specs.Inner.{Filled, HoldsIn, Made, loaded, row-by, row-made, RowsAreIn, RowsAre, column-by, Columned, ColumnsAreIn}
+use Rattle.residual.specs.Inner.{Filled, HoldsIn, loaded, row-by, row-made, RowsAreIn, RowsAre, column-by, Columned, ColumnsAreIn}
 use Rattle.residual.proofs.Fills.{filled-again, rows-more}
 use Rattle.residual.proofs.Lines.{part, back, Line, passable, line-filled, line-mark}
 use Rattle.residual.proofs.Places.{by-row, same-column}
-
--- the first engine's pass
-pub as-made : {kind : Kind} {n s m : ℕ} {c d : List ℤ} {r : Bool} → PassIs kind n s m c d r → Made (passed-by First kind (side n) m) n s c d r
-as-made p = record { elements = p .elements; mark = p .mark }
 
 -- the mark of one line more
 any-more : {m r : Bool} (k : ℕ) (f : ℕ → Bool) → m ≡ any k f → r ≡ f k → m || r ≡ any (k + 1) f
@@ -46,7 +41,7 @@ rows-are {p} {m} {r} {c} k e h quiet =
 
 module _ {w from : ℕ} {e : ℕ → ℤ} {t u : List ℤ} (is-length : len (side w) ≡ w) (room : from + w ≤ length t) (loaded : Filled t from 1 e w u) where
   line : Line from 1 w u
-  line = record { is-length = is-length; some = omega arith; reach = λ j l. omega (arith, loaded .long) }
+  line = record { is-length = is-length; some = omega arith; reach = λ j l. omega arith }
 
   own : (j : ℕ) → j < w → at u (from + j * 1) ≡ e j
   own j l = loaded .own (from + j * 1) j (omega arith) l

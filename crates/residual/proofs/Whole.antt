@@ -100,7 +100,7 @@ module _ {n : ℕ} {e : Engine} {p : Plan} {c : List ℤ} {r : ℕ} {t₀ t₁ :
   row-small : (y x : ℕ) → y < r → Left (p .rows) (at (row-by e p (row-range d) c y .values) x)
   row-small y x l =
       rows-left e (p .rows) (side (p .w)) (row-range d) (tab (p .w) (loaded p c y)) (row-reach d .small) (served .rows)
-      (at-tab (λ z. natAbs z ≤ 524288) (p .w) (loaded p c y) (lit≤ tt) (λ i g. loaded-small (given .coefs) y i (omega (arith, given .some-rows)) g)) x
+      (at-tab (λ z. natAbs z ≤ 524288) (p .w) (loaded p c y) (lit≤ tt) (λ i g. loaded-small (given .coefs) y i (omega arith) g)) x
 
   pub rowed-left : (i : ℕ) → Left (p .rows) (at t₁ i)
   rowed-left = at-holds (Left (p .rows)) (not-0 (p .w) (given .sized .width)) (rowed .elements)

@@ -13,7 +13,6 @@ use Rattle.levels.specs.Sides.{len, side}
 use Rattle.levels.specs.declared.Kind.{Kind}
 use Rattle.levels.specs.declared.Kind.the-variants.{Dct, Wht}
 use Rattle.itx_1d.specs.Passes.{Passed}
-use Rattle.itx_1d.specs.Calls.{taken, put}
 use Rattle.levels.specs.Manners.{is-wht}
 use Rattle.itx_1d.specs.Inner.{revs, source, most, Lined, Limited}
 use Rattle.bitdepth.specs.declared.Depth.{Depth}
@@ -58,11 +57,6 @@ pub record Sized (p : Plan) : Type 0 where
 pub record Coefs (p : Plan) (c : List ℤ) : Type 0 where
   pub count : p .w * p .h ≤ length c
   pub small : (i : ℕ) → i < p .w * p .h → natAbs (at c i) ≤ 524288
-
--- what a pass f makes of the list c
-pub record Made (f : List ℤ → Passed) (n s : ℕ) (c d : List ℤ) (r : Bool) : Type 0 where
-  pub elements : d ≡ put c s (f (taken c s n) .values) n
-  pub mark : r ≡ f (taken c s n) .mark
 
 -- what the loops ask
 pub record RowLoads (p : Plan) (c : List ℤ) (y : ℕ) (t : List ℤ) : Type 0 where

@@ -10,7 +10,7 @@ ghost use Rattle.levels.specs.Sides.{side};
 ghost use Rattle.levels.specs.Manners.{if-wht};
 ghost use lib.Dec.{T};
 ghost use Rattle.itx_1d.specs.Passes.{identity};
-ghost use Rattle.itx_1d.specs.Inner.{Passing};
+ghost use Rattle.itx_1d.specs.Inner.{Passing, Made};
 ghost use Rattle.residual.specs.Blocks as Blocks;
 ghost use Rattle.residual.specs.Inner as Inner;
 use bitdepth::Depth;
@@ -116,7 +116,7 @@ fn round(t: &mut [i32], plan: Plan, n: usize, min: i32, max: i32)
 // compiler then calls both engines' passes, and puts neither into the other's way, whose stack it would take.
 fn row_by(engine: Engine, kind: Kind, c: &mut [i32], n: usize, min: i32, max: i32) -> bool
     requires { ⌜ Passing kind (now c) n 1 min max × T (Blocks.serves engine kind) ⌝ }
-    ensures { λ r. ⌜ Inner.Made (Blocks.passed-by engine kind (side n) (natAbs min)) n 1 (now (c .entry)) (now (c .exit)) r ⌝ }
+    ensures { λ r. ⌜ Made (Blocks.passed-by engine kind (side n) (natAbs min)) n 1 (now (c .entry)) (now (c .exit)) r ⌝ }
 {
     match engine {
         Engine::First => inv_1d(kind, c, n, 1, min, max),
@@ -138,7 +138,7 @@ fn column_by(
     max: i32,
 ) -> bool
     requires { ⌜ Passing kind (now c) n stride min max × T (Blocks.serves engine kind) ⌝ }
-    ensures { λ r. ⌜ Inner.Made (Blocks.passed-by engine kind (side n) (natAbs min)) n stride (now (c .entry)) (now (c .exit)) r ⌝ }
+    ensures { λ r. ⌜ Made (Blocks.passed-by engine kind (side n) (natAbs min)) n stride (now (c .entry)) (now (c .exit)) r ⌝ }
 {
     match engine {
         Engine::First => inv_1d(kind, c, n, stride, min, max),

@@ -14,7 +14,8 @@ use Rattle.residual.proofs.columns.Tie as tie
 quick-columns-requires : tie.Need-quick-columns-requires
 quick-columns-requires c κs =
     let e = c .before .before in let s = e .before .before .before in let p = s .args .plan in (
-      to2 (λ lo hi. ColumnsPass Dct (p .w) (p .h) lo hi (s .args .t .now)) (s .fits .min) (s .fits .max) (rw (e .enum-told2 .given .1) at (s .pre .0)),
+      to2 (λ lo hi. ColumnsPass Dct (p .w) (p .h) lo hi (s .args .t .now)) (s .fits .min) (s .fits .max)
+          (rw (e .enum-told2 .given .1) at (s .pre .0)),
       s .pre .1,
       s .pre .2,
     )
@@ -31,7 +32,8 @@ still : tie.Need-columns-by-line-requires-2
 still c κs =
     let q = c .before .before in let z = s q in let p = z .args .plan in (
       to2 (λ lo hi. ColumnsPass (p .columns) (p .w) (p .h) lo hi (q .before .quick-columns .last .0)) (z .fits .min) (z .fits .max)
-          (subst⁻¹ (ColumnsPass (p .columns) (p .w) (p .h) (z .args .min) (z .args .max)) (q .before .quick-columns .ensures .same (c .before .if1 .left)) (z .pre .0)),
+          (subst⁻¹ (ColumnsPass (p .columns) (p .w) (p .h) (z .args .min) (z .args .max))
+          (q .before .quick-columns .ensures .same (c .before .if1 .left)) (z .pre .0)),
       tt,
     )
 

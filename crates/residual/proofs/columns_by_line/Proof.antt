@@ -1,6 +1,6 @@
 -- `residual::columns_by_line` meets its contract.
 use mathlib.Core.Path.{_≡_, refl, sym, _∙_}
-use Prim.Native.Nat.{_≤_, _<_, _-_}
+use Prim.Native.Nat.{_≤_, _-_}
 use native.Mathlib.Nat.{le-refl}
 use native.Mathlib.Omega.{arith}
 use lib.IntN.{natAbs}
@@ -9,9 +9,7 @@ use mir.Val.{toZ}
 use mir.ValLaws.{toZ-ofZ}
 use Rattle.whole.proofs.Held.{to2}
 use Rattle.itx_1d.specs.Inner.{Limited}
-use Rattle.itx_1d.proofs.Strides.{not-0}
 use Rattle.residual.specs.Inner.{ColumnsBy}
-use Rattle.residual.proofs.Places.{by-row}
 use Rattle.residual.proofs.Steps.{columned-none, column-passable, columns-are-more}
 use Rattle.residual.proofs.columns_by_line.Statement.{statement}
 use Rattle.residual.proofs.columns_by_line.Tie as tie
@@ -33,17 +31,10 @@ column-by-requires c κs =
       s .pre .1,
     )
 
--- column x is in the slice
-here : (c : tie.In-loop Inv-loop μ-loop) → c .before .loop .x < 1024
-here c = let s = c .before .before in omega (
-  arith,
-  by-row (s .args .plan .w) (s .args .plan .h) 0 (c .before .loop .x) (not-0 (s .args .plan .h) (s .pre .0 .is-length)) (c .loop-test .taken),
-)
-
 pub columns-by-line-spec : {M : Type 1} → statement M
 columns-by-line-spec =
     tie.close (tie.spec Inv-loop μ-loop (λ c. (record { elements = columned-none (c .pre .0 .long); marked = refl }, omega arith))
-    (λ c. omega (arith, here c)) (λ c. omega (arith, here c)) (λ c. omega (arith, here c)) (λ c. le-refl _) column-by-requires
+    (λ c. omega arith) (λ c. omega arith) (λ c. omega arith) (λ c. le-refl _) column-by-requires
     (λ c. omega arith) (λ c. omega arith) (λ c.
     let d = c .before in let i = d .before .before in let q = i .before .before .pre .0 in
     (columns-are-more (q .is-length) (i .loop-test .taken) (q .room) (i .before .loop .inv .0) (d .column-by .ensures), omega arith))

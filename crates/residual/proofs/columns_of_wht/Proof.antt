@@ -7,7 +7,7 @@ use lib.Dec.{lit≤}
 use Rattle.levels.specs.declared.Kind.the-variants.{Wht}
 use Rattle.residual.specs.declared.Engine.the-variants.{First}
 use Rattle.residual.specs.Inner.{Columned}
-use Rattle.residual.proofs.Steps.{as-made, columned-none, column-passable, column-more}
+use Rattle.residual.proofs.Steps.{columned-none, column-passable, column-more}
 use Rattle.residual.proofs.columns_of_wht.Statement.{statement}
 use Rattle.residual.proofs.columns_of_wht.Tie as tie
 
@@ -24,6 +24,6 @@ columns-of-wht-spec =
     (λ c κs. let i = c .before in column-passable {h = 4} refl (i .loop-test .taken) (lit≤ tt) (i .before .loop .inv .0) (i .before .before .pre .1))
     (λ c. omega arith) (λ c. omega arith) (λ c.
     let d = c .before in let i = d .before .before in
-    (column-more {h = 4} refl (i .loop-test .taken) (lit≤ tt) (i .before .loop .inv .0) (as-made (d .wht4 .ensures)), omega arith))
+    (column-more {h = 4} refl (i .loop-test .taken) (lit≤ tt) (i .before .loop .inv .0) (d .wht4 .ensures), omega arith))
     (λ c. c .before .loop .inv .0 .long ∙ sym (c .before .before .pre .0))
     (λ c. let all : c .before .loop .x ≡ 4 = omega arith in rw all at (c .before .loop .inv .0)))

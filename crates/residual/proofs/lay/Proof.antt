@@ -37,7 +37,7 @@ lay-spec =
     (λ c. record { fits = le-trans (place (c .before) .small) (lit≤ tt) }) (λ c. omega (arith, place (c .before .before) .small))
     (λ c. omega (arith, row-in (c .before .before)))
     (λ c κs. let i = c .before .before in (omega (arith, place i .small, i .before .loop .inv .0 .long), omega (arith, row-in i)))
-    (λ c. omega (arith, low (c .before .before .before))) (λ c. omega arith) (λ c.
+    (λ c. omega arith) (λ c. omega arith) (λ c.
     let i = c .before .before .before in (
       laid-more (s i .pre .is-length) (i .loop-test .taken) (s i .pre .narrow) (i .before .loop .inv .0) (rw (place i .is) at (c .copy .ensures)),
       omega arith,

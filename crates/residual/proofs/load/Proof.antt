@@ -10,7 +10,7 @@ use Rattle.itx_1d.specs.Inner.{source}
 use Rattle.itx_1d.proofs.Strides.{source-at, not-0}
 use Rattle.residual.specs.Inner.{loaded, Laid}
 use Rattle.residual.proofs.Laying.{Placed, placed, laid-none, laid-more}
-use Rattle.residual.proofs.Places.{w-small, h-small}
+use Rattle.residual.proofs.Places.{h-small}
 use Rattle.residual.proofs.load.Statement.{statement}
 use Rattle.residual.proofs.load.Tie as tie
 
@@ -43,7 +43,7 @@ load-spec =
       room = omega (arith, place i .small, few i);
       long = i .before .loop .inv .0 .long;
     })
-    (λ c. let i = c .before .before .before in omega (arith, w-small (s i .args .plan) (s i .pre .sized))) (λ c. omega arith) (λ c.
+    (λ c. omega arith) (λ c. omega arith) (λ c.
     let i = c .before .before .before in (
       laid-more (s i .pre .sized .width) (i .loop-test .taken) (few i) (i .before .loop .inv .0) (rw (place i .is) at (c .load-column .ensures)),
       omega arith,

@@ -56,5 +56,5 @@ load-row-spec =
     (λ c. omega (arith, among c)) (λ c. omega (arith, among c)) enter-requires (λ c. omega (arith, small-place (c .before .before)))
     (λ c. omega (arith, small-place (c .before .before))) (λ c. omega (arith, small-place (c .before .before)))
     (λ c. omega (arith, here (c .before .before), c .before .before .before .loop .inv .0 .long))
-    (λ c. omega (arith, small-place (c .before .before))) (λ c. omega arith) loop-again (λ c. c .before .loop .inv .0 .long)
+    (λ c. omega arith) (λ c. omega arith) loop-again (λ c. c .before .loop .inv .0 .long)
     (λ c. let all : c .before .loop .x ≡ c .before .before .args .plan .w = omega arith in rw all at (c .before .loop .inv .0)))

@@ -41,7 +41,7 @@ returns-2 : tie.Need-returns-2
 returns-2 c =
     let d = c .before .before .before .before .before in let e = d .before .before in let s = e .before .before in
     let long = s .pre .load .block .sized .width in
-    let all = all-left (held (s .fits .min) (s .fits .max) (d .dct .ensures)) (omega (arith, c .before .before .before .before .if1 .left)) in (
+    let all = all-left (held (s .fits .min) (s .fits .max) (d .dct .ensures)) (omega arith) in (
       succeeded (rows-are Dct (s .pre .is-dct)
           (record {
             rows = λ y x h g. c .before .store .ensures .rows y x h g ∙ value long (e .load .ensures) (ranged s) all y h x g;

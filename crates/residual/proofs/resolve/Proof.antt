@@ -31,7 +31,8 @@ module _ (c : tie.After-rows-by) where
 
   rowed : RowsBy (start .args .engine) (start .args .plan) (row-range (start .args .depth)) (start .args .coeff .now)
       (start .args .r) (c .rows-by .last .1 .0) (c .rows-by .result)
-  rowed = rw (m-is (row-reach (start .args .depth)) (c .before .before .before .before .before .before .row-range .ensures)) at (c .rows-by .ensures .0)
+  rowed = rw (m-is (row-reach (start .args .depth)) (c .before .before .before .before .before .before .row-range .ensures))
+      at (c .rows-by .ensures .0)
 
   few : start .args .r * start .args .plan .w ≤ 1024
   few = rows-fit (start .args .plan) (start .pre .0 .sized) (start .args .r) (start .pre .0 .some-rows)

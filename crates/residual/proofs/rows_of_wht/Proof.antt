@@ -11,7 +11,7 @@ use Rattle.whole.specs.Lists.{at}
 use Rattle.residual.specs.Inner.{wht-plan, row-made, HoldsIn}
 use Rattle.residual.proofs.Fills.{rows-none, rows-more}
 use Rattle.residual.proofs.Small.{loaded-small}
-use Rattle.residual.proofs.Steps.{as-made, row-passable, row-filled}
+use Rattle.residual.proofs.Steps.{row-passable, row-filled}
 use Rattle.residual.proofs.rows_of_wht.Statement.{statement}
 use Rattle.residual.proofs.rows_of_wht.Tie as tie
 
@@ -37,7 +37,8 @@ wht4-requires c κs =
 loop-again : tie.Need-loop-again Inv-loop μ-loop
 loop-again c =
     let d = c .before in let l = d .before .before .before in
-    (rows-more (turn l .before .loop .inv .0) (row-filled {w = 4} refl (omega arith) (l .load-row .ensures) (as-made (d .wht4 .ensures))), omega arith)
+    let row = row-filled {w = 4} refl (omega arith) (l .load-row .ensures) (d .wht4 .ensures) in
+    (rows-more (turn l .before .loop .inv .0) row, omega arith)
 
 pub rows-of-wht-spec : {M : Type 1} → statement M
 rows-of-wht-spec =

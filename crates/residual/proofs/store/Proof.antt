@@ -35,7 +35,7 @@ store-spec =
       narrow = w-small (s i .args .plan) (s i .pre .sized);
       room = omega (arith, row-in i);
       long = i .before .loop .inv .0 .long;
-    }) (λ c. omega (arith, low (c .before .before .before))) (λ c. omega arith)
+    }) (λ c. omega arith) (λ c. omega arith)
     (λ c. (rows-more (c .before .before .before .before .loop .inv .0) (c .before .store-row .ensures), omega arith))
     (λ c. c .before .loop .inv .0 .long ∙ sym (c .before .before .pre .long))
     (λ c. let all : c .before .loop .y ≡ c .before .before .args .r = omega arith in rw all at (c .before .loop .inv .0)))
