@@ -32,13 +32,13 @@ column-reach Twelve = record { some = lit≤ tt; small = lit≤ tt }
 
 module _ {m : ℕ} (g : Reach m) where
   pub size : natAbs (low m) ≡ m
-  size = let e : suc (m - 1) ≡ m = omega (arith, g .some) in e
+  size = let e : suc (m - 1) ≡ m = omega arith in e
 
   low-held : toZ w32 (ofZ w32 (low m)) ≡ low m
-  low-held = let l : suc (m - 1) ≤ 524288 = omega (arith, g .some, g .small) in toZ-ofZ w32 (low m) (abs-fits {n = 524288} l tt)
+  low-held = let l : suc (m - 1) ≤ 524288 = omega arith in toZ-ofZ w32 (low m) (abs-fits {n = 524288} l tt)
 
   high-held : toZ w32 (ofZ w32 (high m)) ≡ high m
-  high-held = let l : m - 1 ≤ 524288 = omega (arith, g .small) in toZ-ofZ w32 (high m) (abs-fits {n = 524288} l tt)
+  high-held = let l : m - 1 ≤ 524288 = omega arith in toZ-ofZ w32 (high m) (abs-fits {n = 524288} l tt)
 
   -- the ends that a local range holds
   module _ {r : Range} (e : r ≡ ends m) where

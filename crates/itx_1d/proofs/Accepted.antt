@@ -20,15 +20,15 @@ use Rattle.whole.specs.Checks.{accept, unless, unless-at}
 use Rattle.whole.proofs.Clips.{inside-abs}
 use Rattle.whole.proofs.Counts.{first-none}
 use Rattle.whole.proofs.Held.{from2, same-is}
-use Rattle.levels.specs.Sides.{len, side}
+use Rattle.levels.specs.Sides.{of4, len, side}
 use Rattle.levels.specs.declared.Kind.{Kind}
-use Rattle.levels.specs.declared.Kind.the-variants.{Wht}
+use Rattle.levels.specs.declared.Kind.the-variants.{Dct, Wht}
 use Rattle.itx_1d.specs.declared.Pass.{Pass}
 use Rattle.itx_1d.specs.declared.Pass.the-variants.{Done}
 use Rattle.itx_1d.specs.Passes.{Passed, pass}
 use Rattle.whole.specs.Answers.{Outcome, acceptance, outcome-of}
-use Rattle.itx_1d.specs.Calls.{taken, put, is-range, bad-range, accepted, ranged, halved, Meets}
-use Rattle.itx_1d.specs.Inner.{after, range-check, place-check, element-check, Seen, Ranged, PassIs, looked, dct-reading, called}
+use Rattle.itx_1d.specs.Calls.{taken, put, is-range, bad-range, accepted, ranged, halved, unranged, Meets}
+use Rattle.itx_1d.specs.Inner.{after, range-check, place-check, element-check, read, Seen, Ranged, Made, looked, called}
 use Rattle.itx_1d.proofs.Pass.{the-type}
 use Rattle.itx_1d.proofs.Checks.{is-done, refuse}
 use Rattle.itx_1d.proofs.Strides.{in-reach}
@@ -46,23 +46,43 @@ pub record Good (t u v : Bool) (o : Option ℕ) : Type 0 where
   pub short : v ≡ false
   pub elements : o ≡ none
 
-pub good : (t u v : Bool) (o : Option ℕ) {b : Bool} → verdict t u v o ≡ Done b → Good t u v o
+good : (t u v : Bool) (o : Option ℕ) {b : Bool} → verdict t u v o ≡ Done b → Good t u v o
 good true u v o e = refuse (ap is-done e)
 good false true v o e = refuse (ap is-done e)
 good false false true o e = refuse (ap is-done e)
 good false false false (some i) e = refuse (ap is-done e)
 good false false false none e = record { range = refl; stride = refl; short = refl; elements = refl }
 
-pub accepted-is : {t u v : Bool} {o : Option ℕ} (c : List ℤ) (out : Outcome) → Good t u v o → defined t u v o c out ≡ out
+accepted-is : {t u v : Bool} {o : Option ℕ} (c : List ℤ) (out : Outcome) → Good t u v o → defined t u v o c out ≡ out
 accepted-is c out g = λ i. defined (g .range i) (g .stride i) (g .short i) (g .elements i) c out
 
-pub refused-is : (t u v : Bool) (o : Option ℕ) (c : List ℤ) (out : Outcome)
+refused-is : (t u v : Bool) (o : Option ℕ) (c : List ℤ) (out : Outcome)
     → OneOf (1 ∷ 2 ∷ 3 ∷ 4 ∷ []) (tagOf the-type (verdict t u v o)) → Meets (defined t u v o c out) (verdict t u v o) c
 refused-is true u v o c out h = record { answer = refl; elements = refl }
 refused-is false true v o c out h = record { answer = refl; elements = refl }
 refused-is false false true o c out h = record { answer = refl; elements = refl }
 refused-is false false false (some i) c out h = record { answer = refl; elements = refl }
 refused-is false false false none c out h = absurd (miss (1 ∷ 2 ∷ 3 ∷ 4 ∷ []) 0 tt h)
+
+-- a call that asks for `want`: p is what the code's checks say, and `out` what it does if all went well
+pub record Judged (want out : Outcome) (c : List ℤ) (p : Pass) : Type 0 where
+  pub range : Bool
+  pub stride : Bool
+  pub short : Bool
+  pub offender : Option ℕ
+  pub is : want ≡ defined range stride short offender c out
+  pub by : p ≡ verdict range stride short offender
+
+module _ {want out : Outcome} {c : List ℤ} {p : Pass} (j : Judged want out c p) where
+  pub refused : OneOf (1 ∷ 2 ∷ 3 ∷ 4 ∷ []) (tagOf the-type p) → Meets want p c
+  refused h = rw (j .is, j .by) (refused-is (j .range) (j .stride) (j .short) (j .offender) c out (rw (j .by) at h))
+
+  module _ {b : Bool} (e : p ≡ Done b) where
+    pub all-good : Good (j .range) (j .stride) (j .short) (j .offender)
+    all-good = good (j .range) (j .stride) (j .short) (j .offender) (sym (j .by) ∙ e)
+
+    pub met : {d : List ℤ} {r : Bool} → Meets out (Done r) d → Meets want (Done r) d
+    met m = rw (j .is ∙ accepted-is c out all-good) m
 
 -- ---- what is known after an acceptance
 
@@ -109,7 +129,7 @@ plain f {d} {r = r} p q m = from2 (λ lo hi. Meets (f lo hi) r d) p q m
 
 -- the pass of a call that is not refused
 abbrev pub passed : Bool → Kind → ℕ → ℤ → List ℤ → Passed
-passed true kind n lo = dct-reading true (side n) (natAbs lo)
+passed true kind n lo = λ xs. pass Dct (side n) (natAbs lo) (read true (side n) xs)
 passed false kind n lo = pass kind (side n) (natAbs lo)
 
 pub called-is : (tx64 : Bool) (kind : Kind) (n : ℕ) (c : List ℤ) (s : ℕ) (lo hi : ℤ) → len (side n) ≡ n
@@ -122,14 +142,13 @@ called-is true kind n c s lo hi e = λ i. defined (bad-range lo hi) (eqb s 0) (l
 called-is false kind n c s lo hi e = λ i. defined (bad-range lo hi) (eqb s 0) (leb (length c) ((e i - 1) * s))
     (first (e i) (λ j. outside (at c (j * s)) lo hi)) c (accepted (passed false kind n lo) (side n) s c)
 
-pub done : (f : List ℤ → Passed) (n s : ℕ) (c : List ℤ) {d : List ℤ} {r : Bool} → len (side n) ≡ n
-    → d ≡ put c s (f (taken c s n) .values) n → r ≡ f (taken c s n) .mark → Meets (accepted f (side n) s c) (Done r) d
-done f n s c e p q = record {
-  answer = ap acceptance q ∙ (λ i. acceptance (f (taken c s (sym e i)) .mark));
-  elements = p ∙ (λ i. put c s (f (taken c s (sym e i)) .values) (sym e i));
-}
+pub unranged-is : (c : List ℤ) (s : ℕ) → unranged c s ≡ defined false (eqb s 0) (leb (length c) (3 * s))
+    (first 4 (λ i. outside (at c (i * s)) (low 16777216) (high 16777216))) c (accepted (pass Wht of4 16777216) of4 s c)
+unfolding unranged
+unranged-is c s = refl
 
--- a WHT looks at no range
-pub any-range : {n s k m : ℕ} {c d : List ℤ} {r : Bool} → PassIs Wht n s k c d r → PassIs Wht n s m c d r
-unfolding pass
-any-range h = record { elements = h .elements; mark = h .mark }
+pub done : {f : List ℤ → Passed} {n s : ℕ} {c d : List ℤ} {r : Bool} → len (side n) ≡ n → Made f n s c d r → Meets (accepted f (side n) s c) (Done r) d
+done {f} {s = s} {c} e h = record {
+  answer = ap acceptance (h .mark) ∙ (λ i. acceptance (f (taken c s (sym e i)) .mark));
+  elements = h .elements ∙ (λ i. put c s (f (taken c s (sym e i)) .values) (sym e i));
+}

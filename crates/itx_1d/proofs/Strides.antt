@@ -5,6 +5,7 @@ use mathlib.Core.Bool.{Bool, true, false, cond, _&&_}
 use mathlib.Core.List.{List, [], _∷_, _++_}
 use Prim.Native.Nat.{ℕ, zero, suc, _+_, _*_, _-_, _/_, _%_, _≤_, _<_}
 use native.Mathlib.Nat.{eq-of-mul-eq-mul-right, mul-le-mul-right, lt-of-le-of-lt}
+use native.Mathlib.Numerals.{add-one}
 use native.Mathlib.Omega.{arith}
 use lib.IntN.{ℤ, pos}
 use lib.ListN.{getD, set, length, replicate, length-set}
@@ -133,7 +134,7 @@ module _ (c : List ℤ) (s : ℕ) (vs : List ℤ) (some : 0 < s) where
   apart i k h e = let q = eq-of-mul-eq-mul-right s some k i e in omega arith
 
   -- an element that is still to be put
-  pub waits : (k : ℕ) → at (put c s vs k) (k * s) ≡ at c (k * s)
+  waits : (k : ℕ) → at (put c s vs k) (k * s) ≡ at c (k * s)
   waits k = kept k (k * s) (λ j h e. apart j k h e)
 
   pub put-at : (k i : ℕ) → i < k → ((j : ℕ) → j < k → j * s < length c) → at (put c s vs k) (i * s) ≡ at vs i
@@ -143,3 +144,24 @@ module _ (c : List ℤ) (s : ℕ) (vs : List ℤ) (some : 0 < s) where
       last-or-less i k (λ (n : ℕ). at (put c s vs (suc k)) (n * s) ≡ at vs n) h
       (getD-set-same (put c s vs k) (k * s) (at vs k) (pos 0) (subst (λ (n : ℕ). k * s < n) (sym (length-put c s vs k)) (l k (omega arith))))
       (λ g. getD-set-other (put c s vs k) (k * s) (i * s) (at vs k) (pos 0) (λ e. apart i k g (sym e)) ∙ put-at k i g (λ j u. l j (omega arith)))
+
+-- a run of stores at work: the first k are done
+pub record Putting (c : List ℤ) (s : ℕ) (vs : List ℤ) (k : ℕ) (u : List ℤ) : Type 0 where
+  pub is : u ≡ put c s vs k
+  pub long : length u ≡ length c
+
+module _ {c : List ℤ} {s : ℕ} {vs : List ℤ} where
+  pub putting-none : Putting c s vs 0 c
+  unfolding put
+  putting-none = record { is = refl; long = refl }
+
+  pub putting-more : {k : ℕ} {u : List ℤ} {v : ℤ} → Putting c s vs k u → v ≡ at vs k → Putting c s vs (k + 1) (set u (k * s) v)
+  unfolding put
+  putting-more {k} {u} {v} h e = record {
+    is = (λ i. set (h .is i) (k * s) (e i)) ∙ ap (put c s vs) (sym (add-one k));
+    long = length-set u (k * s) v ∙ h .long;
+  }
+
+  -- the next element is still what it was
+  pub putting-next : {k : ℕ} {u : List ℤ} → 0 < s → Putting c s vs k u → at u (k * s) ≡ at c (k * s)
+  putting-next {k} some h = ap (λ (l : List ℤ). at l (k * s)) (h .is) ∙ waits c s vs some k

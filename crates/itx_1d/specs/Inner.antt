@@ -66,18 +66,17 @@ pub record Ranged (lo hi : ℤ) : Type 0 where
   pub high-is : hi ≡ high (natAbs lo)
   pub small : natAbs lo ≤ 524288
 
--- what a pass with the range -m .. m - 1 makes of the list c
-pub record PassIs (kind : Kind) (n s m : ℕ) (c d : List ℤ) (r : Bool) : Type 0 where
-  pub elements : d ≡ put c s (pass kind (side n) m (taken c s n) .values) n
-  pub mark : r ≡ pass kind (side n) m (taken c s n) .mark
+-- what a pass f makes of the list c: d, with the mark r
+pub record Made (f : List ℤ → Passed) (n s : ℕ) (c d : List ℤ) (r : Bool) : Type 0 where
+  pub elements : d ≡ put c s (f (taken c s n) .values) n
+  pub mark : r ≡ f (taken c s n) .mark
 
--- the same of a DCT that reads all elements, or the lower half
-abbrev pub dct-reading : Bool → Side → ℕ → List ℤ → Passed
-dct-reading tx64 n m xs = pass Dct n m (read tx64 n xs)
+-- a pass with the range -m .. m - 1; and a DCT that reads all elements, or the lower half
+abbrev pub PassIs : Kind → ℕ → ℕ → ℕ → List ℤ → List ℤ → Bool → Type 0
+PassIs kind n s m = Made (pass kind (side n) m) n s
 
-pub record DctIs (tx64 : Bool) (n s m : ℕ) (c d : List ℤ) (r : Bool) : Type 0 where
-  pub elements : d ≡ put c s (dct-reading tx64 (side n) m (taken c s n) .values) n
-  pub mark : r ≡ dct-reading tx64 (side n) m (taken c s n) .mark
+abbrev pub DctIs : Bool → ℕ → ℕ → ℕ → List ℤ → List ℤ → Bool → Type 0
+DctIs tx64 n s m = Made (λ xs. pass Dct (side n) m (read tx64 (side n) xs)) n s
 
 -- the identity of n points on the list
 abbrev pub identical : List ℤ → ℕ → ℕ → List ℤ

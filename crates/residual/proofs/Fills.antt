@@ -1,36 +1,42 @@
--- What a run of stores leaves.
-use mathlib.Core.Path.{_≡_, refl, sym, ap, _∙_, subst⁻¹}
+-- What a run of stores leaves, one store more with each turn; and what rows leave, one row more.
+use mathlib.Core.Path.{_≡_, refl, sym, ap, _∙_}
 use mathlib.Core.List.{List}
-use Prim.Native.Nat.{ℕ, zero, suc, _+_, _≤_, _<_}
+use Prim.Native.Nat.{ℕ, suc, _+_, _*_, _≤_, _<_}
+use native.Mathlib.Nat.{mul-le-mul-right}
 use native.Mathlib.Omega.{arith}
 use lib.IntN.{ℤ, pos}
-use lib.ListN.{length, length-set}
+use lib.ListN.{length, set, length-set}
 use lib.Seq.{getD-set-same, getD-set-other}
 use Rattle.whole.specs.Lists.{at}
 use Rattle.whole.proofs.Counts.{last-or-less}
-use Rattle.residual.specs.Inner.{fill}
+use Rattle.residual.specs.Inner.{Filled, RowsIn}
 
-module _ (t : List ℤ) (from : ℕ) (f : ℕ → ℤ) where
-  pub fill-length : (k : ℕ) → length (fill t from f k) ≡ length t
-  unfolding fill
-  fill-length zero = refl
-  fill-length (suc k) = length-set (fill t from f k) (from + k) (f k) ∙ fill-length k
+module _ {t : List ℤ} {from : ℕ} {f : ℕ → ℤ} where
+  pub filled-none : {s : ℕ} → Filled t from s f 0 t
+  filled-none = record { own = λ i j e l. (let x : ⊥ = omega arith in absurd x); other = λ i d. refl; long = refl }
 
-  -- what stands before and after
-  pub fill-before : (k i : ℕ) → i < from → at (fill t from f k) i ≡ at t i
-  unfolding fill
-  fill-before zero i h = refl
-  fill-before (suc k) i h = getD-set-other (fill t from f k) (from + k) i (f k) (pos 0) (λ e. omega arith) ∙ fill-before k i h
+  pub filled-more : {k : ℕ} {u : List ℤ} {v : ℤ} → Filled t from 1 f k u → (i : ℕ) → i ≡ from + k → i < length t → v ≡ f k
+      → Filled t from 1 f (k + 1) (set u i v)
+  filled-more {k} {u} {v} h i e l is = record {
+    own = λ a j p b. last-or-less j k (λ (n : ℕ). a ≡ from + n * 1 → at (set u i v) a ≡ f n) (omega arith)
+        (λ q. ap (at (set u i v)) (omega arith) ∙ getD-set-same u i v (pos 0) (omega arith) ∙ is)
+        (λ g q. getD-set-other u i a v (pos 0) (λ z. omega arith) ∙ h .own a j q g) p;
+    other = λ a d. getD-set-other u i a v (pos 0) (λ z. d k (omega arith) (omega arith)) ∙ h .other a (λ j b. d j (omega arith));
+    long = length-set u i v ∙ h .long;
+  }
 
-  pub fill-after : (k i : ℕ) → from + k ≤ i → at (fill t from f k) i ≡ at t i
-  unfolding fill
-  fill-after zero i h = refl
-  fill-after (suc k) i h = getD-set-other (fill t from f k) (from + k) i (f k) (pos 0) (λ e. omega arith) ∙ fill-after k i (omega arith)
+  -- filled anew
+  pub filled-again : {g : ℕ → ℤ} {s k : ℕ} {u v : List ℤ} → Filled t from s f k u → Filled u from s g k v → Filled t from s g k v
+  filled-again h r = record { own = r .own; other = λ i d. r .other i d ∙ h .other i d; long = r .long ∙ h .long }
 
-  pub fill-own : (k j : ℕ) → from + k ≤ length t → j < k → at (fill t from f k) (from + j) ≡ f j
-  unfolding fill
-  fill-own zero j l h = let x : ⊥ = omega arith in absurd x
-  fill-own (suc k) j l h =
-      last-or-less j k (λ (i : ℕ). at (fill t from f (suc k)) (from + i) ≡ f i) h
-      (getD-set-same (fill t from f k) (from + k) (f k) (pos 0) (omega (arith, fill-length k)))
-      (λ g. getD-set-other (fill t from f k) (from + k) (from + j) (f k) (pos 0) (λ e. omega arith) ∙ fill-own k j (omega arith) g)
+module _ {n w : ℕ} {f : ℕ → ℕ → ℤ} {z : ℕ → ℤ} {t : List ℤ} where
+  pub rows-none : ((i : ℕ) → at t i ≡ z i) → length t ≡ n → RowsIn n w 0 f z t
+  rows-none h l = record { rows = λ y x b g. (let e : ⊥ = omega arith in absurd e); rest = λ i b. h i; long = l }
+
+  pub rows-more : {y : ℕ} {u : List ℤ} → RowsIn n w y f z t → Filled t (y * w) 1 (f y) w u → RowsIn n w (y + 1) f z u
+  rows-more {y} {u} h r = record {
+    rows = λ v x l g. last-or-less v y (λ (i : ℕ). at u (i * w + x) ≡ f i x) (omega arith) (r .own (y * w + x) x (omega arith) g)
+        (λ q. r .other (v * w + x) (λ j b e. omega (arith, mul-le-mul-right {m = suc v} {n = y} w q)) ∙ h .rows v x q g);
+    rest = λ i l. r .other i (λ j b e. omega arith) ∙ h .rest i (omega arith);
+    long = r .long ∙ h .long;
+  }

@@ -15,9 +15,9 @@ use Rattle.whole.specs.Lists.{at, tab}
 use Rattle.whole.proofs.Counts.{tab-ext}
 use Rattle.levels.specs.Sides.{len, side}
 use Rattle.itx_1d.specs.Passes.{Passed}
-use Rattle.itx_1d.specs.Calls.{taken}
-use Rattle.itx_1d.specs.Inner.{Passable}
-use Rattle.residual.specs.Inner.{Made}
+use Rattle.itx_1d.specs.Calls.{taken, put}
+use Rattle.itx_1d.specs.Inner.{Passable, Made}
+use Rattle.residual.specs.Inner.{Filled}
 use Rattle.itx_1d.proofs.Strides.{length-put, kept, put-at, not-0}
 
 -- the part of t from x on
@@ -45,61 +45,70 @@ module _ (t d : List ℤ) (x : ℕ) (b : x ≤ length t) where
       ∙ getD-append-add (take x t) (d ++ postOf x (length t - x) t) k (pos 0)
       ∙ List·getD-append d (postOf x (length t - x) t) (pos 0) k l
 
-abbrev pub line : ℕ → ℕ → ℕ → List ℤ → List ℤ
-line from s n u = tab n (λ j. at u (from + j * s))
+-- the n elements are there
+pub record Line (from s n : ℕ) (u : List ℤ) : Type 0 where
+  pub is-length : len (side n) ≡ n
+  pub some : 0 < s
+  pub reach : (j : ℕ) → j < n → from + j * s < length u
 
-module _ (from s n : ℕ) (u : List ℤ) (is-length : len (side n) ≡ n) (some : 0 < s) (reach : (j : ℕ) → j < n → from + j * s < length u) where
+module _ {from s n : ℕ} {u : List ℤ} (here : Line from s n u) where
   line-at : (j : ℕ) → j < n → at (part u from) (j * s) ≡ at u (from + j * s)
-  line-at j l = part-at u from (j * s) (reach j l)
+  line-at j l = part-at u from (j * s) (here .reach j l)
 
   line-inside : (j : ℕ) → j < n → j * s < length (part u from)
-  line-inside j l = omega (arith, reach j l, part-length u from)
+  line-inside j l = omega (arith, here .reach j l, part-length u from)
 
   -- what a pass on the part asks
-  pub passable : (most : ℕ) → ((j : ℕ) → j < n → natAbs (at u (from + j * s)) ≤ most) → Passable (part u from) s n most
-  passable most f = record {
-    reaches = record { is-length = is-length; some-stride = some; inside = line-inside };
+  pub passable : {most : ℕ} → ((j : ℕ) → j < n → natAbs (at u (from + j * s)) ≤ most) → Passable (part u from) s n most
+  passable {most} f = record {
+    reaches = record { is-length = here .is-length; some-stride = here .some; inside = line-inside };
     small = λ j l. subst (λ (z : ℤ). natAbs z ≤ most) (sym (line-at j l)) (f j l);
   }
 
-  taken-is : taken (part u from) s n ≡ line from s n u
-  taken-is = tab-ext n (λ j. at (part u from) (j * s)) (λ j. at u (from + j * s)) line-at
-
   from-inside : from ≤ length u
-  from-inside = omega (arith, reach 0 (not-0 n is-length))
+  from-inside = omega (arith, here .reach 0 (not-0 n (here .is-length)))
 
-  -- what it gives
-  module _ (φ : List ℤ → Passed) (d : List ℤ) (r : Bool) (done : Made φ n s (part u from) d r) where
+  -- what it gives, of the elements xs
+  module _ {xs : List ℤ} (line : tab n (λ j. at u (from + j * s)) ≡ xs) {φ : List ℤ → Passed} {d : List ℤ} {r : Bool}
+      (done : Made φ n s (part u from) d r) where
+    taken-is : taken (part u from) s n ≡ xs
+    taken-is = tab-ext n (λ j. at (part u from) (j * s)) (λ j. at u (from + j * s)) line-at ∙ line
+
     abbrev values : List ℤ
-    values = φ (taken (part u from) s n) .values
+    values = φ xs .values
 
-    d-length : length d ≡ length u - from
-    d-length = ap length (done .elements) ∙ length-put (part u from) s values n ∙ part-length u from
+    is : d ≡ put (part u from) s values n
+    is = done .elements ∙ ap (λ (ys : List ℤ). put (part u from) s (φ ys .values) n) taken-is
 
-    pub line-own : (j : ℕ) → j < n → at (back u from d) (from + j * s) ≡ at (φ (line from s n u) .values) j
-    line-own j l =
-        back-from u d from from-inside (j * s) (omega (arith, d-length, reach j l))
-        ∙ ap (λ (xs : List ℤ). at xs (j * s)) (done .elements) ∙ put-at (part u from) s values some n j l line-inside
-        ∙ ap (λ (xs : List ℤ). at (φ xs .values) j) taken-is
+    d-length : length d ≡ length (part u from)
+    d-length = ap length is ∙ length-put (part u from) s values n
 
-    pub line-length : length (back u from d) ≡ length u
-    line-length = same-len-mid from (length u - from) u d (ap length (done .elements) ∙ length-put (part u from) s values n)
+    long : length (back u from d) ≡ length u
+    long = same-len-mid from (length u - from) u d d-length
 
-    pub line-kept : (i : ℕ) → ((j : ℕ) → j < n → i ≢ from + j * s) → at (back u from d) i ≡ at u i
-    line-kept i f = go (ltb i (length u)) (ltb i from) refl refl
+    kept-at : (i : ℕ) → ((j : ℕ) → j < n → i ≢ from + j * s) → at (back u from d) i ≡ at u i
+    kept-at i f = go (ltb i (length u)) (ltb i from) refl refl
       where
         go : (a b : Bool) → ltb i (length u) ≡ a → ltb i from ≡ b → at (back u from d) i ≡ at u i
         go false b e g =
             let q : length u ≤ i = ltb-false _ _ e in
-            List·getD-eq-default (back u from d) (pos 0) (omega (arith, line-length)) ∙ sym (List·getD-eq-default u (pos 0) q)
+            List·getD-eq-default (back u from d) (pos 0) (omega (arith, long)) ∙ sym (List·getD-eq-default u (pos 0) q)
         go true true e g = back-before u d from from-inside i (ltb-true _ _ g)
         go true false e g =
             let h : i < length u = ltb-true _ _ e in let q : from ≤ i = ltb-false _ _ g in
             let p : i ≡ from + (i - from) = omega arith in ap (at (back u from d)) p
-            ∙ back-from u d from from-inside (i - from) (omega (arith, d-length))
-            ∙ ap (λ (xs : List ℤ). at xs (i - from)) (done .elements)
-            ∙ kept (part u from) s values some n (i - from) (λ j v z. f j v (omega arith))
+            ∙ back-from u d from from-inside (i - from) (omega (arith, d-length, part-length u from)) ∙ ap (λ (ys : List ℤ). at ys (i - from)) is
+            ∙ kept (part u from) s values (here .some) n (i - from) (λ j v z. f j v (omega arith))
             ∙ part-at u from (i - from) (omega arith) ∙ ap (at u) (sym p)
 
-    pub line-mark : r ≡ φ (line from s n u) .mark
-    line-mark = done .mark ∙ ap (λ (xs : List ℤ). φ xs .mark) taken-is
+    pub line-filled : Filled u from s (at values) n (back u from d)
+    line-filled = record {
+      own = λ i j e l. ap (at (back u from d)) e
+          ∙ back-from u d from from-inside (j * s) (omega (arith, d-length, part-length u from, here .reach j l))
+          ∙ ap (λ (ys : List ℤ). at ys (j * s)) is ∙ put-at (part u from) s values (here .some) n j l line-inside;
+      other = kept-at;
+      long = long;
+    }
+
+    pub line-mark : r ≡ φ xs .mark
+    line-mark = done .mark ∙ ap (λ (ys : List ℤ). φ ys .mark) taken-is

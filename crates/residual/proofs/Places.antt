@@ -24,6 +24,9 @@ module _ (p : Plan) (s : Sized p) where
   pub area : p .h * p .w ≤ 1024
   area = mul-le-mul h-small w-small
 
+  pub rows-fit : (y : ℕ) → y ≤ p .h → y * p .w ≤ 1024
+  rows-fit y l = le-trans (mul-le-mul-right {m = y} {n = p .h} (p .w) l) area
+
 -- a place in w-wide rows tells its column
 pub same-column : (w y u i x : ℕ) → i < w → x < w → y * w + i ≡ u * w + x → i ≡ x
 same-column w y u i x l g e =

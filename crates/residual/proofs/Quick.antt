@@ -107,7 +107,7 @@ module _ {n w : ℕ} {f : ℕ → ℕ → ℤ} {u : List ℤ} (e : len (side n) 
 
 -- none was given up
 pub all-left : {ss : List Step} {lo hi : ℤ} {w n : ℕ} {t u : List ℤ} → Left ss lo hi w t u n → w ≤ n → Left ss lo hi w t u w
-all-left {ss} {lo} {hi} {w} {n} {t} {u} h g = let e : n ≡ w = omega (arith, h .fewer) in subst (λ (k : ℕ). Left ss lo hi w t u k) e h
+all-left {ss} {lo} {hi} {w} {n} {t} {u} h g = let e : n ≡ w = omega arith in subst (λ (k : ℕ). Left ss lo hi w t u k) e h
 
 -- the two answers of a quick form
 pub gave-up : {D : Type 0} {t : List ℤ} → Quickly false D t t

@@ -31,17 +31,12 @@ use Rattle.levels.specs.declared.Plan.{Plan}
 use Rattle.residual.specs.declared.Engine.{Engine}
 use Rattle.residual.specs.declared.Engine.the-variants.{First, Spec}
 use Rattle.residual.specs.Blocks.{passed-by, serves, way-by, middle, column, marked}
-use Rattle.residual.specs.Inner.{fill, rounding, loaded, row-by, RowsAreIn, HoldsIn, column-by, ColumnsAreIn, Sized, Coefs, Served, ResolvedIn}
-use Rattle.residual.proofs.Fills.{fill-after, fill-own}
-use Rattle.residual.proofs.Places.{by-row, by-column}
-use Rattle.residual.proofs.Small.{entering-small}
+use Rattle.residual.specs.Inner.{Filled, rounding, loaded, row-by, RowsAreIn, HoldsIn, column-by, ColumnsAreIn, ResolvesIn, Served, ResolvedIn}
+use Rattle.residual.proofs.Ends.{row-reach}
+use Rattle.residual.proofs.Places.{by-row}
+use Rattle.residual.proofs.Small.{loaded-small}
 
 -- ---- sizes
-
-pub row-range-small : (d : Depth) → row-range d ≤ 524288
-row-range-small Eight = lit≤ tt
-row-range-small Ten = lit≤ tt
-row-range-small Twelve = lit≤ tt
 
 pub column-range-small : (d : Depth) → column-range d ≤ 131072
 column-range-small Eight = lit≤ tt
@@ -86,9 +81,9 @@ at-tab P (suc n) f z h zero = h 0 (omega arith)
 at-tab P (suc n) f z h (suc i) = at-tab P n (λ j. f (suc j)) z (λ j l. h (suc j) (omega arith)) i
 
 -- what holds of zero and of the rows holds of every number of the block
-pub at-holds : {n : ℕ} (P : ℤ → Type 0) (w k : ℕ) (f : ℕ → ℕ → ℤ) (t : List ℤ) → 0 < w → HoldsIn n w k f t → P (pos 0)
+pub at-holds : {n w k : ℕ} {f : ℕ → ℕ → ℤ} {t : List ℤ} (P : ℤ → Type 0) → 0 < w → HoldsIn n w k f t → P (pos 0)
     → ((y x : ℕ) → y < k → x < w → P (f y x)) → (i : ℕ) → P (at t i)
-at-holds P w k f t some h z g i = go (ltb i (k * w)) refl
+at-holds {w = w} {k} {t = t} P some h z g i = go (ltb i (k * w)) refl
   where
     go : (b : Bool) → ltb i (k * w) ≡ b → P (at t i)
     go true e =
@@ -99,41 +94,28 @@ at-holds P w k f t some h z g i = go (ltb i (k * w)) refl
 
 -- ---- the steps together
 
-module _ {n : ℕ} (e : Engine) (p : Plan) (d : Depth) (c : List ℤ) (r : ℕ) (t₁ t₂ t₃ : List ℤ) (m₁ m₂ : Bool) (sized : Sized p)
-    (served : Served e p) (room : p .h * p .w ≤ n) (coefs : Coefs p c) (some-rows : r ≤ p .h)
-    (rowed : RowsAreIn n e p (row-range d) c r t₁ m₁)
-    (rounded : t₂ ≡ fill t₁ 0 (λ i. rounding p (low (column-range d)) (high (column-range d)) (at t₁ i)) (r * p .w))
-  where
-    abbrev between : ℤ → ℤ
-    between = rounding p (low (column-range d)) (high (column-range d))
+module _ {n : ℕ} {e : Engine} {p : Plan} {c : List ℤ} {r : ℕ} {t₀ t₁ : List ℤ} {m₁ : Bool} (d : Depth)
+    (given : ResolvesIn n p c r t₀) (served : Served e p) (rowed : RowsAreIn n e p (row-range d) c r t₁ m₁) where
+  -- a row leaves more than a WHT's does where nothing is clipped
+  row-small : (y x : ℕ) → y < r → Left (p .rows) (at (row-by e p (row-range d) c y .values) x)
+  row-small y x l =
+      rows-left e (p .rows) (side (p .w)) (row-range d) (tab (p .w) (loaded p c y)) (row-reach d .small) (served .rows)
+      (at-tab (λ z. natAbs z ≤ 524288) (p .w) (loaded p c y) (lit≤ tt) (λ i g. loaded-small (given .coefs) y i (omega arith) g)) x
 
-    inside : r * p .w ≤ length t₁
-    inside = omega (arith, rowed .elements .long, mul-le-mul-right {m = r} {n = p .h} (p .w) some-rows, room)
+  pub rowed-left : (i : ℕ) → Left (p .rows) (at t₁ i)
+  rowed-left = at-holds (Left (p .rows)) (not-0 (p .w) (given .sized .width)) (rowed .elements)
+      (record { most = lit≤ tt; of-wht = λ t. lit≤ tt }) (λ y x l g. row-small y x l)
 
-    loaded-small : (y x : ℕ) → y < r → x < p .w → natAbs (loaded p c y x) ≤ 524288
-    loaded-small y x l g = entering-small (p .rows) (p .w) (p .h) _ (coefs .small (y + x * p .h) (by-column (p .w) (p .h) y x (omega arith) g))
+  abbrev between : ℤ → ℤ
+  between = rounding p (low (column-range d)) (high (column-range d))
 
-    -- a row leaves more than a WHT's does where nothing is clipped
-    row-small : (y x : ℕ) → y < r → Left (p .rows) (at (row-by e p (row-range d) c y .values) x)
-    row-small y x l =
-        rows-left e (p .rows) (side (p .w)) (row-range d) (tab (p .w) (loaded p c y)) (row-range-small d) (served .rows)
-        (at-tab (λ z. natAbs z ≤ 524288) (p .w) (loaded p c y) (lit≤ tt) (λ i g. loaded-small y i l g)) x
-
-    pub rowed-left : (i : ℕ) → Left (p .rows) (at t₁ i)
-    rowed-left = at-holds (Left (p .rows)) (p .w) r _ t₁ (not-0 (p .w) (sized .width)) (rowed .elements)
-        (record { most = lit≤ tt; of-wht = λ t. lit≤ tt }) (λ y x l g. row-small y x l)
-
-    pub rowed-small : (i : ℕ) → natAbs (at t₁ i) ≤ 20919545
-    rowed-small i = rowed-left i .most
-
+  module _ {t₂ : List ℤ} (rounded : Filled t₁ 0 1 (λ i. rounding p (low (column-range d)) (high (column-range d)) (at t₁ i)) (r * p .w) t₂) where
     -- what stands in row y, column x after step 4
     in-rows : (i : ℕ) → i < r * p .w → at t₂ i ≡ between (at t₁ i)
-    in-rows i l = ap (λ (t : List ℤ). at t i) rounded ∙ ap (at (fill t₁ 0 (λ j. between (at t₁ j)) (r * p .w))) (omega arith)
-        ∙ fill-own t₁ 0 (λ j. between (at t₁ j)) (r * p .w) i (omega (arith, inside)) l
+    in-rows i l = rounded .own i i (omega arith) l
 
-    after-rows : (i : ℕ) → r * p .w ≤ i → at t₂ i ≡ pos 0
-    after-rows i l = ap (λ (t : List ℤ). at t i) rounded ∙ fill-after t₁ 0 (λ j. between (at t₁ j)) (r * p .w) i (omega arith)
-        ∙ rowed .elements .rest i l
+    pub after-rows : (i : ℕ) → r * p .w ≤ i → at t₂ i ≡ pos 0
+    after-rows i l = rounded .other i (λ j b z. omega arith) ∙ rowed .elements .rest i l
 
     middle-is : (y x : ℕ) → x < p .w → at t₂ (y * p .w + x) ≡ middle (way-by e p d) c r y x
     middle-is y x g = go (ltb y r) refl
@@ -144,12 +126,7 @@ module _ {n : ℕ} (e : Engine) (p : Plan) (d : Depth) (c : List ℤ) (r : ℕ) 
 
     -- sizes after step 4: a column takes them
     ends-small : (z : ℤ) → natAbs (clip z (low (column-range d)) (high (column-range d))) ≤ 131072
-    ends-small z = go d
-      where
-        go : (b : Depth) → natAbs (clip z (low (column-range b)) (high (column-range b))) ≤ 131072
-        go Eight = clip-abs z (low 32768) (high 32768) (lit≤ tt) (lit≤ tt)
-        go Ten = clip-abs z (low 32768) (high 32768) (lit≤ tt) (lit≤ tt)
-        go Twelve = clip-abs z (low 131072) (high 131072) (lit≤ tt) (lit≤ tt)
+    ends-small z = let l = column-range-small d in clip-abs z (low (column-range d)) (high (column-range d)) (omega arith) (omega arith)
 
     between-small : (z : ℤ) → Left (p .rows) z → natAbs (between z) ≤ cond (is-wht (p .rows)) 2621442 131072
     between-small z l = chosen (is-wht (p .rows)) z (clip (round2 z (p .shift)) (low (column-range d)) (high (column-range d)))
@@ -169,9 +146,9 @@ module _ {n : ℕ} (e : Engine) (p : Plan) (d : Depth) (c : List ℤ) (r : ℕ) 
 
     pub for-columns : (i : ℕ) → natAbs (at t₂ i) ≤ most (p .columns)
     for-columns i = le-trans (block-small i) (split (λ k. k ≤ most (p .columns)) (p .rows) 2621442 131072
-        (λ t. subst⁻¹ (λ (k : Kind). 2621442 ≤ most k) (sized .wht-both t) (lit≤ tt)) (le-trans (lit≤ tt) (at-most (p .columns))))
+        (λ t. subst⁻¹ (λ (k : Kind). 2621442 ≤ most k) (given .sized .wht-both t) (lit≤ tt)) (le-trans (lit≤ tt) (at-most (p .columns))))
 
-    module _ (columned : ColumnsAreIn n e (p .columns) (column-range d) (p .w) (p .h) t₂ (p .w) t₃ m₂) where
+    module _ {t₃ : List ℤ} {m₂ : Bool} (columned : ColumnsAreIn n e (p .columns) (column-range d) (p .w) (p .h) t₂ (p .w) t₃ m₂) where
       column-is : (x : ℕ) → x < p .w → column-by e (p .columns) (column-range d) (p .w) (p .h) t₂ x ≡ column (way-by e p d) c r x
       column-is x g = ap (passed-by e (p .columns) (side (p .h)) (column-range d)) (tab-ext (p .h) _ _ (λ y l. middle-is y x g))
 
@@ -179,7 +156,7 @@ module _ {n : ℕ} (e : Engine) (p : Plan) (d : Depth) (c : List ℤ) (r : ℕ) 
       column-small y x l g =
           subst⁻¹ (λ (z : ℤ). natAbs z ≤ 16777216) (columned .elements .passed y x l g)
           (columns-left e (p .rows) (p .columns) (side (p .h)) (column-range d) (tab (p .h) (λ v. at t₂ (v * p .w + x)))
-          (sized .wht-both) (column-range-small d) (served .columns)
+          (given .sized .wht-both) (column-range-small d) (served .columns)
           (at-tab (λ z. natAbs z ≤ cond (is-wht (p .rows)) 2621442 131072) (p .h) (λ v. at t₂ (v * p .w + x)) (omega arith)
           (λ v k. block-small (v * p .w + x))) y)
 

@@ -2,17 +2,17 @@
 use mathlib.Core.Path.{_≡_}
 use mathlib.Core.Bool.{Bool, true, false}
 use mathlib.Core.List.{List}
-use Prim.Native.Nat.{ℕ, zero, suc, _+_, _*_, _≤_, _<_}
+use mathlib.Core.Logic.{_≢_}
+use Prim.Native.Nat.{ℕ, _+_, _*_, _≤_, _<_}
 use lib.Dec.{T}
 use lib.IntN.{ℤ, pos, natAbs}
-use lib.ListN.{length, set}
+use lib.ListN.{length}
 use Rattle.whole.specs.Numbers.{_>>_, round2, clip}
 use Rattle.whole.specs.Lists.{at, tab, any}
 use Rattle.levels.specs.Sides.{len, side}
 use Rattle.levels.specs.declared.Kind.{Kind}
 use Rattle.levels.specs.declared.Kind.the-variants.{Dct, Wht}
 use Rattle.itx_1d.specs.Passes.{Passed}
-use Rattle.itx_1d.specs.Calls.{taken, put}
 use Rattle.levels.specs.Manners.{is-wht}
 use Rattle.itx_1d.specs.Inner.{revs, source, most, Lined, Limited}
 use Rattle.bitdepth.specs.declared.Depth.{Depth}
@@ -25,18 +25,22 @@ use Rattle.levels.specs.Manners.{if-wht}
 abbrev pub entering : Kind → ℕ → ℕ → ℤ → ℤ
 entering rows w h v = if-wht rows (v >> 2) (prescale w h v)
 
--- f 0, .., f (k - 1) stored from place `from` on
-unfoldable pub fill : List ℤ → ℕ → (ℕ → ℤ) → ℕ → List ℤ
-fill t from f zero = t
-fill t from f (suc k) = set (fill t from f k) (from + k) (f k)
+-- u has f 0, .., f (k - 1) at the places from, from + s, .., and elsewhere what t has
+pub record Filled (t : List ℤ) (from s : ℕ) (f : ℕ → ℤ) (k : ℕ) (u : List ℤ) : Type 0 where
+  pub own : (i j : ℕ) → i ≡ from + j * s → j < k → at u i ≡ f j
+  pub other : (i : ℕ) → ((j : ℕ) → j < k → i ≢ from + j * s) → at u i ≡ at t i
+  pub long : length u ≡ length t
 
--- a scratch block of n numbers as w-wide rows: its first k rows hold f, and it is zero after them
-pub record HoldsIn (n w k : ℕ) (f : ℕ → ℕ → ℤ) (t : List ℤ) : Type 0 where
+-- a block of n numbers as w-wide rows: its first k rows hold f, and after them stands z
+pub record RowsIn (n w k : ℕ) (f : ℕ → ℕ → ℤ) (z : ℕ → ℤ) (t : List ℤ) : Type 0 where
   pub rows : (y x : ℕ) → y < k → x < w → at t (y * w + x) ≡ f y x
-  pub rest : (i : ℕ) → k * w ≤ i → at t i ≡ pos 0
+  pub rest : (i : ℕ) → k * w ≤ i → at t i ≡ z i
   pub long : length t ≡ n
 
--- that of all types but WHT_WHT
+-- a scratch block, which is zero after its rows; and that of all types but WHT_WHT
+abbrev pub HoldsIn : ℕ → ℕ → ℕ → (ℕ → ℕ → ℤ) → List ℤ → Type 0
+HoldsIn n w k f = RowsIn n w k f (λ i. pos 0)
+
 abbrev pub Holds : ℕ → ℕ → (ℕ → ℕ → ℤ) → List ℤ → Type 0
 Holds = HoldsIn 1024
 
@@ -54,11 +58,6 @@ pub record Coefs (p : Plan) (c : List ℤ) : Type 0 where
   pub count : p .w * p .h ≤ length c
   pub small : (i : ℕ) → i < p .w * p .h → natAbs (at c i) ≤ 524288
 
--- what a pass f makes of the list c
-pub record Made (f : List ℤ → Passed) (n s : ℕ) (c d : List ℤ) (r : Bool) : Type 0 where
-  pub elements : d ≡ put c s (f (taken c s n) .values) n
-  pub mark : r ≡ f (taken c s n) .mark
-
 -- what the loops ask
 pub record RowLoads (p : Plan) (c : List ℤ) (y : ℕ) (t : List ℤ) : Type 0 where
   pub sized : Sized p
@@ -74,14 +73,21 @@ pub record Rounds (p : Plan) (n : ℕ) (t : List ℤ) : Type 0 where
   pub inside : n ≤ length t
   pub small : (i : ℕ) → natAbs (at t i) ≤ 1073741823
 
--- steps 1 to 3: what they ask, what a pass with the range -m .. m - 1 makes of row y, and what they leave after k rows
-pub record RowsLoad (p : Plan) (c : List ℤ) (r : ℕ) (lo hi : ℤ) (t : List ℤ) : Type 0 where
+-- the whole: what it asks
+pub record ResolvesIn (n : ℕ) (p : Plan) (c : List ℤ) (r : ℕ) (t : List ℤ) : Type 0 where
   pub sized : Sized p
   pub coefs : Coefs p c
   pub some-rows : r ≤ p .h
-  pub limited : Limited (p .rows) lo hi
   pub empty : (i : ℕ) → at t i ≡ pos 0
-  pub long : length t ≡ 1024
+  pub long : length t ≡ n
+
+abbrev pub Resolves : Plan → List ℤ → ℕ → List ℤ → Type 0
+Resolves = ResolvesIn 1024
+
+-- steps 1 to 3: what they ask, what a pass with the range -m .. m - 1 makes of row y, and what they leave after k rows
+pub record RowsLoad (p : Plan) (c : List ℤ) (r : ℕ) (lo hi : ℤ) (t : List ℤ) : Type 0 where
+  pub block : Resolves p c r t
+  pub limited : Limited (p .rows) lo hi
 
 abbrev pub loaded : Plan → List ℤ → ℕ → ℕ → ℤ
 loaded p c y x = entering (p .rows) (p .w) (p .h) (at c (y + x * p .h))
@@ -191,7 +197,7 @@ pub record RowsFrom (r w h : ℕ) (t : List ℤ) : Type 0 where
   pub some-rows : r ≤ h
   pub zeros : (i : ℕ) → r * w ≤ i → at t i ≡ pos 0
 
--- the columns at once: what the loops ask, and give
+-- the columns at once: what the loops ask
 pub record Lays (rev : List ℕ) (t : List ℤ) (w h : ℕ) (u : List ℤ) : Type 0 where
   pub lends : Lends rev u
   pub is-length : len (side h) ≡ h
@@ -204,26 +210,12 @@ pub record Takes (u : List ℤ) (w h : ℕ) (t : List ℤ) : Type 0 where
   pub low : h ≤ 32
   pub long : length t ≡ 1024
 
-pub record Taken (u : List ℤ) (w k : ℕ) (t : List ℤ) : Type 0 where
-  pub rows : (y x : ℕ) → y < k → x < w → at t (y * w + x) ≡ at u (y * 32 + x)
-  pub long : length t ≡ 1024
-
--- the whole: what it asks, and gives
-pub record ResolvesIn (n : ℕ) (p : Plan) (c : List ℤ) (r : ℕ) (t : List ℤ) : Type 0 where
-  pub sized : Sized p
-  pub coefs : Coefs p c
-  pub some-rows : r ≤ p .h
-  pub empty : (i : ℕ) → at t i ≡ pos 0
-  pub long : length t ≡ n
-
-abbrev pub Resolves : Plan → List ℤ → ℕ → List ℤ → Type 0
-Resolves = ResolvesIn 1024
-
 -- an engine that has the plan's kinds
 pub record Served (e : Engine) (p : Plan) : Type 0 where
   pub rows : T (serves e (p .rows))
   pub columns : T (serves e (p .columns))
 
+-- the whole: what it gives
 pub record ResolvedIn (n : ℕ) (e : Engine) (p : Plan) (d : Depth) (c : List ℤ) (r : ℕ) (t : List ℤ) (mark : Bool) : Type 0 where
   pub elements : (y x : ℕ) → y < p .h → x < p .w → at t (y * p .w + x) ≡ at (column (way-by e p d) c r x .values) y
   pub small : (y x : ℕ) → y < p .h → x < p .w → natAbs (at t (y * p .w + x)) ≤ 16777216

@@ -10,7 +10,7 @@ ghost use Rattle.levels.specs.Sides.{side};
 ghost use Rattle.levels.specs.Manners.{if-wht};
 ghost use lib.Dec.{T};
 ghost use Rattle.itx_1d.specs.Passes.{identity};
-ghost use Rattle.itx_1d.specs.Inner.{Passing};
+ghost use Rattle.itx_1d.specs.Inner.{Passing, Made};
 ghost use Rattle.residual.specs.Blocks as Blocks;
 ghost use Rattle.residual.specs.Inner as Inner;
 use bitdepth::Depth;
@@ -86,8 +86,7 @@ pub fn shortcut(plan: Plan, v: i32) -> i32
 // Row y of the coefficients, which stand column by column.
 fn load_row(t: &mut [i32], plan: Plan, coeff: &[i32], y: usize)
     requires { ⌜ Inner.RowLoads plan (now coeff) y (now t) ⌝ }
-    ensures { λ _. ⌜ now (t .exit) ≡ Inner.fill (now (t .entry)) (y * plan .w)
-        (λ x. Inner.entering (plan .rows) (plan .w) (plan .h) (at (now (coeff .entry)) (y + x * plan .h))) (plan .w) ⌝ }
+    ensures { λ _. ⌜ Inner.Filled (now (t .entry)) (y * plan .w) 1 (Inner.loaded plan (now (coeff .entry)) y) (plan .w) (now (t .exit)) ⌝ }
 {
     let rows = plan.rows;
     let w = plan.w;
@@ -102,7 +101,7 @@ fn load_row(t: &mut [i32], plan: Plan, coeff: &[i32], y: usize)
 // Step 4 on the first n numbers.
 fn round(t: &mut [i32], plan: Plan, n: usize, min: i32, max: i32)
     requires { ⌜ Inner.Rounds plan n (now t) ⌝ }
-    ensures { λ _. ⌜ now (t .exit) ≡ Inner.fill (now (t .entry)) 0 (λ i. Inner.rounding plan min max (at (now (t .entry)) i)) n ⌝ }
+    ensures { λ _. ⌜ Inner.Filled (now (t .entry)) 0 1 (λ i. Inner.rounding plan min max (at (now (t .entry)) i)) n (now (t .exit)) ⌝ }
 {
     let rows = plan.rows;
     let shift = plan.shift;
@@ -117,7 +116,7 @@ fn round(t: &mut [i32], plan: Plan, n: usize, min: i32, max: i32)
 // compiler then calls both engines' passes, and puts neither into the other's way, whose stack it would take.
 fn row_by(engine: Engine, kind: Kind, c: &mut [i32], n: usize, min: i32, max: i32) -> bool
     requires { ⌜ Passing kind (now c) n 1 min max × T (Blocks.serves engine kind) ⌝ }
-    ensures { λ r. ⌜ Inner.Made (Blocks.passed-by engine kind (side n) (natAbs min)) n 1 (now (c .entry)) (now (c .exit)) r ⌝ }
+    ensures { λ r. ⌜ Made (Blocks.passed-by engine kind (side n) (natAbs min)) n 1 (now (c .entry)) (now (c .exit)) r ⌝ }
 {
     match engine {
         Engine::First => inv_1d(kind, c, n, 1, min, max),
@@ -139,7 +138,7 @@ fn column_by(
     max: i32,
 ) -> bool
     requires { ⌜ Passing kind (now c) n stride min max × T (Blocks.serves engine kind) ⌝ }
-    ensures { λ r. ⌜ Inner.Made (Blocks.passed-by engine kind (side n) (natAbs min)) n stride (now (c .entry)) (now (c .exit)) r ⌝ }
+    ensures { λ r. ⌜ Made (Blocks.passed-by engine kind (side n) (natAbs min)) n stride (now (c .entry)) (now (c .exit)) r ⌝ }
 {
     match engine {
         Engine::First => inv_1d(kind, c, n, stride, min, max),
@@ -193,7 +192,7 @@ fn columns_by_line(t: &mut [i32], engine: Engine, plan: Plan, min: i32, max: i32
 // Steps 1 and 2 for element x of rows 0..r-1, which are neighbours among the coefficients: to the places from `from` on.
 fn load_column(u: &mut [i32; 1024], from: usize, plan: Plan, coeff: &[i32], x: usize, r: usize)
     requires { ⌜ Inner.ColumnLoads plan (now coeff) x r from (now u) ⌝ }
-    ensures { λ _. ⌜ now (u .exit) ≡ Inner.fill (now (u .entry)) from (λ y. Inner.loaded plan (now (coeff .entry)) y x) r ⌝ }
+    ensures { λ _. ⌜ Inner.Filled (now (u .entry)) from 1 (λ y. Inner.loaded plan (now (coeff .entry)) y x) r (now (u .exit)) ⌝ }
 {
     let rows = plan.rows;
     let w = plan.w;
@@ -221,7 +220,7 @@ fn load(u: &mut [i32; 1024], rev: &[u8; 32], plan: Plan, coeff: &[i32], r: usize
 // Row y of the block, which is lane y of u.
 fn store_row(t: &mut [i32], from: usize, u: &[i32; 1024], y: usize, w: usize)
     requires { ⌜ Inner.RowStores (now u) y from w (now t) ⌝ }
-    ensures { λ _. ⌜ now (t .exit) ≡ Inner.fill (now (t .entry)) from (λ x. at (now (u .entry)) (x * 32 + y)) w ⌝ }
+    ensures { λ _. ⌜ Inner.Filled (now (t .entry)) from 1 (λ x. at (now (u .entry)) (x * 32 + y)) w (now (t .exit)) ⌝ }
 {
     for x in 0..w {
         let v = u[x * 32 + y];
@@ -267,7 +266,7 @@ fn quick_rows(
 // An identity of n points on the first k numbers: no number asks for another.
 fn scale(t: &mut [i32], n: usize, k: usize)
     requires { ⌜ Inner.Scales k (now t) ⌝ }
-    ensures { λ _. ⌜ now (t .exit) ≡ Inner.fill (now (t .entry)) 0 (λ i. identity (side n) (at (now (t .entry)) i)) k ⌝ }
+    ensures { λ _. ⌜ Inner.Filled (now (t .entry)) 0 1 (λ i. identity (side n) (at (now (t .entry)) i)) k (now (t .exit)) ⌝ }
 {
     for i in 0..k {
         let v = t[i];
@@ -319,7 +318,7 @@ fn rows(
 // n numbers of t from `j` on to the places of u from `i` on.
 fn copy(u: &mut [i32], i: usize, t: &[i32], j: usize, n: usize)
     requires { ⌜ (i + n ≤ length (now u)) × (j + n ≤ length (now t)) ⌝ }
-    ensures { λ _. ⌜ now (u .exit) ≡ Inner.fill (now (u .entry)) i (λ x. at (now (t .entry)) (j + x)) n ⌝ }
+    ensures { λ _. ⌜ Inner.Filled (now (u .entry)) i 1 (λ x. at (now (t .entry)) (j + x)) n (now (u .exit)) ⌝ }
 {
     for x in 0..n {
         let v = t[j + x];
@@ -342,7 +341,7 @@ fn lay(u: &mut [i32; 1024], rev: &[u8; 32], t: &[i32], w: usize, h: usize)
 // The lanes of u as the columns of the block.
 fn take(t: &mut [i32], u: &[i32; 1024], w: usize, h: usize)
     requires { ⌜ Inner.Takes (now u) w h (now t) ⌝ }
-    ensures { λ _. ⌜ Inner.Taken (now (u .entry)) w h (now (t .exit)) ⌝ }
+    ensures { λ _. ⌜ Inner.RowsIn 1024 w h (λ y x. at (now (u .entry)) (y * 32 + x)) (at (now (t .entry))) (now (t .exit)) ⌝ }
 {
     for y in 0..h {
         copy(&mut *t, y * w, u, y * 32, w);

@@ -39,14 +39,9 @@ loop-again c =
       omega arith,
     )
 
-returns : tie.Need-returns Inv-loop μ-loop
-returns c =
-    let h = c .before in let s = h .before in let all : h .loop .i ≡ s .args .n = omega arith in
-    h .loop .inv .0 ∙ ap (λ (k : ℕ). tab k (element (s .args .c .now) (s .args .stride) (s .args .n) (s .args .tx64))
-    ++ replicate (32 - k) (pos 0)) all
-
 pub gather-spec : {M : Type 1} → statement M
 gather-spec =
     tie.close (tie.spec Inv-loop μ-loop (λ c. (c .pre .1, omega arith))
     (λ c κs. (c .before .before .pre .0, c .loop-test .taken)) (λ c. omega (arith, below (c .before)))
-    (λ c. omega (arith, below (c .before))) (λ c. omega arith) (λ c. omega arith) loop-again returns)
+    (λ c. omega (arith, below (c .before))) (λ c. omega arith) (λ c. omega arith) loop-again
+    (λ c. let all : c .before .loop .i ≡ c .before .before .args .n = omega arith in rw all at (c .before .loop .inv .0)))

@@ -14,7 +14,7 @@ column-by-spec =
     (λ c κs. let s = c .before .before .before in transforms (c .before .enum-told2 .given .1) (s .pre .0) (s .pre .1))
     (λ c. search needs) (λ c.
     let o = c .before in let s = o .before .before .before .before in
-    first-made (s .args .min) (o .before .before .enum-told .given .1) (s .fits .min) (o .inv-1d .ensures)) (λ c. search needs)
+    first-made (s .args .kind) (s .args .min) (o .before .before .enum-told .given .1) (s .fits .min) (o .inv-1d .ensures)) (λ c. search needs)
     (λ c.
     let o = c .before in let s = o .before .before .before .before in
     spec-made (s .args .kind) (s .args .n) (s .args .stride) (s .args .min) (s .args .c .now)

@@ -37,7 +37,7 @@ dct-requires c κs =
 returns-2 : tie.Need-returns-2
 returns-2 c =
     let d = c .before .before .before .before .before in let e = d .before .before in let s = e .before .before .before in
-    let all = all-left (held (s .fits .min) (s .fits .max) (d .dct .ensures)) (omega (arith, c .before .before .before .before .if1 .left)) in
+    let all = all-left (held (s .fits .min) (s .fits .max) (d .dct .ensures)) (omega arith) in
     let taken = c .before .take .ensures in succeeded
     (record {
       elements = record {

@@ -27,7 +27,7 @@ returns-2 c = let s = c .before in by s 1 (c .match .keys2)
 returns-3 : tie.Need-returns-3
 unfolding Rattle.whole.specs.Numbers.round2 Rattle.whole.specs.Numbers._>>_
 returns-3 c =
-    let s = c .before in let two : s .args .shift ≡ 2 = omega (arith, c .match .rest .0 .1, c .match .rest .1) in
+    let s = c .before in let two : s .args .shift ≡ 2 = omega arith in
     by s 2 two (reads (s .args .v ∷ []) (1073741823 ∷ []) (s .pre .0, tt) (var 0 ⊕ lit (pos 2) ≫ 2) w32 tt)
 
 pub rounded-spec : {M : Type 1} → statement M
