@@ -3,7 +3,7 @@
 ghost use Prim.Native.Nat.{_≤_, _<_};
 ghost use lib.ListN.{length};
 ghost use Rattle.jobs.specs.Jobs.{task-of};
-ghost use Rattle.jobs.specs.Output.{Next, Last};
+ghost use Rattle.written.specs.Output.{Next, Last};
 ghost use Rattle.drive.specs.Buffers.{Moved, FilledFrom};
 use jobs::step::Job;
 use jobs::step::Turn;

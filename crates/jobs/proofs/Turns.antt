@@ -39,11 +39,9 @@ use Rattle.tally.proofs.Sums.{countable-done}
 use Rattle.jobs.specs.Act.{call-for, given, call, left, act, back, told-end, blocks}
 use Rattle.jobs.specs.Salvage.{salvage}
 use Rattle.jobs.specs.Totalling.{counted, summed, totalling}
-use Rattle.jobs.specs.Inner.{block-of, Acted}
-use Rattle.jobs.specs.Stepping.{is-totals, sane-for, Minds, rest-of, version-of, mind-after, Stepped}
+use Rattle.jobs.specs.Inner.{block-of, Acted, DoneAt, Refused, Fallen, Ended}
+use Rattle.jobs.specs.Stepping.{is-totals, sane-for, Minds, rest-of, version-of, mind-after, Stepped, StepAt, place-at, roomy, Turned}
 use Rattle.jobs.specs.Jobs.{Mind, task-of}
-use Rattle.jobs.specs.Inner.{DoneAt, Refused, Fallen, Ended}
-use Rattle.jobs.specs.Stepping.{StepAt, place-at, roomy, Turned}
 use Rattle.jobs.specs.declared.step.Job.{Job}
 use Rattle.jobs.specs.declared.step.Job.the-variants as Job
 use Rattle.jobs.specs.declared.step.Turn.{Turn}

@@ -2,18 +2,12 @@
 -- change"; "Refusals .. end the run as in E1".
 use mathlib.Core.Bool.{false}
 use mathlib.Core.List.{[]}
-use Prim.Native.Nat.{ℕ}
-use Rattle.whole.specs.Checks.{Line}
-use Rattle.bitdepth.specs.declared.Depth.{Depth}
-use Rattle.levels.specs.declared.Plan.{Plan}
-use Rattle.strided.specs.Planes.{lies}
-use Rattle.checks.specs.Table.{pixel-line}
 use Rattle.blockfile.specs.Form.{number}
 use Rattle.blockfile.specs.Record.{Block, form}
 use Rattle.blockfile.specs.File.{known}
 use Rattle.mend.specs.Mend.{mend, changes-of, lines}
 use Rattle.jobs.specs.Task.{both, done, Task}
-use Rattle.jobs.specs.Act.{given, told-end}
+use Rattle.jobs.specs.Act.{told-end}
 
 unfoldable pub salvage : Task Block (Unit {0})
 unfolding form lines told-end number
@@ -26,7 +20,3 @@ salvage = record {
   act = λ v i s b. done (tt, both (form v .write (mend b)) (lines i (changes-of b)));
   closing = λ s e. told-end e;
 }
-
--- number 21 of a record as the call is given it
-abbrev pub pixels-line : ℕ → Block → Line (Plan × Depth)
-pixels-line v b = pixel-line (b .pixels) (lies (given v b .plane))

@@ -1,14 +1,12 @@
 -- One step of a task: what is done at a place of the file with the bytes that are at hand. `last` says that nothing follows them. Steps, whatever the
--- pieces in which the input comes, write what `run` says of all of it (proofs/Streaming.antt).
-use mathlib.Core.Path.{_≡_}
-use mathlib.Core.Bool.{Bool, true, false, cond, _&&_, not}
-use mathlib.Core.List.{List, [], _∷_, _++_}
-use Prim.Native.Nat.{ℕ, suc, _<_}
+-- pieces in which the input comes, write what `run` says of all of it (crates/written/proofs/Streaming.antt).
+use mathlib.Core.Bool.{Bool, cond, _&&_, not}
+use mathlib.Core.List.{List, [], _∷_}
+use Prim.Native.Nat.{ℕ, suc}
 use lib.Dec.{eqb}
-use lib.ListN.{length}
 use Rattle.blockfile.specs.Read.{Read, got, refused}
-use Rattle.blockfile.specs.File.{first, records}
-use Rattle.jobs.specs.Task.{Written, ahead, Done, done, bad, End, here, refused-at, Task, told, run}
+use Rattle.blockfile.specs.File.{first}
+use Rattle.jobs.specs.Task.{Written, Done, done, bad, End, here, refused-at, Task}
 
 -- before the first number; or before record i of a file of version v, with what is kept in mind
 pub data Place (S : Type 0) : Type 0 where
@@ -26,11 +24,6 @@ pub data Step (S : Type 0) : Type 0 where
 abbrev pub number : {S : Type 0} → Place S → ℕ
 number outset = 0
 number (before v i s) = i
-
--- what is left of bs after something of it was taken
-pub record Left (bs rest : List ℕ) : Type 0 where
-  pub front : List ℕ
-  pub is : bs ≡ front ++ rest
 
 module _ {R S : Type 0} (t : Task R S) where
   abbrev pub mind : Place S → S
@@ -64,17 +57,3 @@ module _ {R S : Type 0} (t : Task R S) where
     step outset bs = opened (first (t .known) .read bs)
     step (before v i s) [] = cond last (ending (before v i s) here) wanted
     step (before v i s) (b ∷ bs) = cond (t .past i) (ending (before v i s) (refused-at i 22)) (came v i s (t .form v .read (b ∷ bs)))
-
-  -- what is written from a place on, of the bytes bs
-  unfoldable pub remaining : Place S → List ℕ → Written
-  unfolding run told records
-  remaining outset bs = run t bs
-  remaining (before v i s) bs = told t v i s (records (t .form v) i bs)
-
-  -- The bytes at hand are bs, and `more` is yet to come. What was written is the first of what is left to write, and the bytes that are
-  -- left go on with what comes; more bytes are wanted only before the last, and where fewer are there than a record can take; and what
-  -- closes a run is all that is left, if nothing comes after the last.
-  abbrev pub Follows : Bool → Place S → List ℕ → Step S → Type 0
-  Follows last p bs (wrote w q rest) = ((more : List ℕ) → remaining p (bs ++ more) ≡ ahead w (remaining q (rest ++ more))) × Left bs rest
-  Follows last p bs wanted = (last ≡ false) × (length bs < 10265)
-  Follows last p bs (closed w) = (more : List ℕ) → (last ≡ true → more ≡ []) → remaining p (bs ++ more) ≡ w

@@ -23,7 +23,7 @@ abbrev pub planned : Head → Check (Plan × Depth)
 planned h = then (plan (h .w) (h .h) (h .txtp)) (with-depth (h .depth))
 
 -- "coefficients past the row range": the row range -m .. m - 1 of a record, by m. "a record that meets a number checked before 9 is copied
--- as it stands": of those a record that was read can meet 2 and 3, and no other (`no-range` in crates/jobs/proofs/Salvaged.antt).
+-- as it stands": of those a record that was read can meet 2 and 3, and no other (`no-range` in crates/written/proofs/Salvaged.antt).
 abbrev pub range : Head → Check ℕ
 range h = then (planned h) (λ a. accept (row-range (a .1)))
 

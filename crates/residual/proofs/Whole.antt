@@ -32,7 +32,7 @@ use Rattle.residual.specs.declared.Engine.{Engine}
 use Rattle.residual.specs.declared.Engine.the-variants.{First, Spec}
 use Rattle.residual.specs.Blocks.{passed-by, serves, way-by, middle, column, marked}
 use Rattle.residual.specs.Inner.{Filled, rounding, loaded, row-by, RowsAreIn, HoldsIn, column-by, ColumnsAreIn, ResolvesIn, Served, ResolvedIn}
-use Rattle.residual.proofs.Ends.{row-reach}
+use Rattle.bitdepth.proofs.Ends.{row-reach}
 use Rattle.residual.proofs.Places.{by-row}
 use Rattle.residual.proofs.Small.{loaded-small}
 

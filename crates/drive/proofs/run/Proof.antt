@@ -14,8 +14,8 @@ use Rattle.jobs.specs.Jobs.{Mind, task-of}
 use Rattle.jobs.specs.declared.step.Job.{Job}
 use Rattle.jobs.specs.declared.step.Turn.{Turn}
 use Rattle.jobs.specs.declared.step.Turn.the-variants as Turn
-use Rattle.jobs.proofs.Held.{Running, begin, next, flushed, to-the-front, filled, as-before}
-use Rattle.jobs.proofs.Runs.{After, after, minds-none}
+use Rattle.written.proofs.Held.{Running, begin, next, flushed, to-the-front, filled, as-before}
+use Rattle.written.proofs.Runs.{After, after, minds-none}
 use Rattle.drive.specs.Buffers.{InBuffer}
 use Rattle.drive.proofs.run.Statement.{statement}
 use Rattle.drive.proofs.run.Tie as tie

@@ -15,21 +15,21 @@ use Rattle.blockfile.proofs.Rooms.{Room, Some}
 use Rattle.blockfile.proofs.Records.{Writable, form-lawful, form-room, some-form}
 use Rattle.blockfile.proofs.Fill.{place-of}
 use Rattle.tally.proofs.Tallies.{none-yet}
 use Rattle.jobs.specs.Task.{Written, ahead, Done, done, bad, here, refused-at, Task}
-use Rattle.jobs.specs.Steps.{Place, outset, before, Step, wrote, wanted, closed, number, mind, ending, falling, opened, acting, came}
-use Rattle.jobs.specs.Steps.{step, remaining, Follows}
+use Rattle.jobs.specs.Steps.{Place, outset, before, Step, wrote, wanted, closed, number, mind, ending, falling, opened, acting, came, step}
+use Rattle.written.specs.Following.{remaining, Follows}
 use Rattle.jobs.specs.Act.{blocks}
 use Rattle.jobs.specs.Salvage.{salvage}
 use Rattle.jobs.specs.Totalling.{totalling}
-use Rattle.jobs.specs.Output.{Last}
+use Rattle.written.specs.Output.{Last}
 use Rattle.jobs.specs.Stepping.{Minds, rest-of, version-of, mind-at, mind-after, turn-of, Stepped, place-at, roomy, Turned}
 use Rattle.jobs.specs.Jobs.{Mind, task-of}
 use Rattle.jobs.specs.declared.step.Job.{Job}
 use Rattle.jobs.specs.declared.step.Job.the-variants as Job
 use Rattle.jobs.specs.declared.step.Turn.{Turn}
 use Rattle.jobs.specs.declared.step.Turn.the-variants.{Wrote, Full, More, Stop}
-use Rattle.jobs.proofs.Streaming.{follows}
-use Rattle.jobs.proofs.Held.{Running, unchanged, stepped, closes}
+use Rattle.written.proofs.Streaming.{follows}
+use Rattle.written.proofs.Held.{Running, unchanged, stepped, closes}
 
 -- every job reads records of one form
 job-lawful : (j : Job) (v : ℕ) → Lawful (task-of j .form v) (Writable v)

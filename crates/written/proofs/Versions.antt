@@ -22,10 +22,11 @@ use Rattle.blockfile.specs.Form.{Each}
 use Rattle.blockfile.specs.Record.{Block, count, Plain}
 use Rattle.blockfile.specs.File.{Records, all, before, after}
 use Rattle.blockfile.proofs.Records.{both}
 use Rattle.jobs.specs.Rows.{spread}
 use Rattle.jobs.specs.Task.{done, bad}
-use Rattle.jobs.specs.Act.{given, call, left, act, judged-block, acted-on}
-use Rattle.jobs.specs.Rewrite.{as-one, pictures}
+use Rattle.jobs.specs.Act.{given, call, left, act}
+use Rattle.written.specs.Shown.{judged-block, acted-on}
+use Rattle.written.specs.Rewrite.{as-one, pictures}
 
 -- ---- a record of version 2 is its rewriting
 

@@ -22,12 +22,13 @@ use Rattle.blockfile.specs.File.{read-blocks, write-blocks}
 use Rattle.blockfile.proofs.Forms.{each-map, each-length}
 use Rattle.blockfile.proofs.Records.{form-lawful, some-form, plain}
 use Rattle.blockfile.proofs.Files.{records-stop, first-lawful, blocks-back, blocks-only}
 use Rattle.jobs.specs.Rows.{spread, gathered, buffered, in-file}
 use Rattle.text.specs.Text.{refused-line}
 use Rattle.jobs.specs.Task.{Written, both, ahead, Done, done, bad, End, here, refused-at, begun, judged, told-on, told, told-file, run}
-use Rattle.jobs.specs.Act.{call-for, given, call, left, act, judged-block, acted-on, back, told-end, blocks, acted-file, shown, shown-file}
-use Rattle.jobs.specs.Rewrite.{as-one, listed, pixels-of, pictures, SamePixels}
-use Rattle.jobs.proofs.Versions.{each-at, each-tab, zero-fits, fits-at, spread-fits, one-plain, all-mapped, same-pictures}
+use Rattle.jobs.specs.Act.{call-for, given, call, left, act, back, told-end, blocks}
+use Rattle.written.specs.Shown.{judged-block, acted-on, acted-file, shown, shown-file}
+use Rattle.written.specs.Rewrite.{as-one, listed, pixels-of, pictures, SamePixels}
+use Rattle.written.proofs.Versions.{each-at, each-tab, zero-fits, fits-at, spread-fits, one-plain, all-mapped, same-pictures}
 
 -- ---- the run
 

@@ -2,12 +2,12 @@
 -- nothing left out. With the last part it is all of it.
 use mathlib.Core.Path.{_≡_, refl, sym, ap, _∙_}
 use mathlib.Core.Bool.{Bool, true}
-use mathlib.Core.List.{List, [], _∷_, _++_, append-assoc, append-nil}
+use mathlib.Core.List.{List, [], _++_, append-assoc}
 use Prim.Native.Nat.{ℕ}
 use lib.ListN.{length, take}
 use lib.Seq.{take-at}
-use Rattle.jobs.specs.Task.{Written, both, nothing, ahead, Task, run}
-use Rattle.jobs.specs.Output.{LastOf, Handed, none, part}
+use Rattle.jobs.specs.Task.{Written, both, ahead, Task, run}
+use Rattle.written.specs.Output.{LastOf, Handed, none, part}
 
 pub ahead-ahead : (a b c : Written) → ahead a (ahead b c) ≡ ahead (ahead a b) c
 ahead-ahead a b c i = both (sym (append-assoc (a .output) (b .output) (c .output)) i) (sym (append-assoc (a .error) (b .error) (c .error)) i)

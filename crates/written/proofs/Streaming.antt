@@ -1,5 +1,5 @@
 -- What a step does of what is left to do, whatever the task and whatever follows the bytes at hand.
-use mathlib.Core.Path.{_≡_, refl, sym, ap, _∙_}
+use mathlib.Core.Path.{_≡_, refl, ap, _∙_}
 use mathlib.Core.Bool.{Bool, true, false, cond, _&&_, not}
 use mathlib.Core.List.{List, [], _∷_, _++_, append-nil}
 use Prim.Native.Nat.{ℕ, suc, _<_}
@@ -15,9 +15,9 @@ use Rattle.blockfile.specs.File as File
 use Rattle.blockfile.proofs.Forms.{Lawful, whole}
 use Rattle.blockfile.proofs.Rooms.{Room, Some, number-room, only-if-room}
 use Rattle.blockfile.proofs.Files.{records-step, first-lawful}
 use Rattle.jobs.specs.Task.{Written, Done, done, bad, here, refused-at, Task, begun, judged, told-on, told, told-file, run}
-use Rattle.jobs.specs.Steps.{Place, outset, before, wanted, number, mind, ending, falling, opened, acting, came}
-use Rattle.jobs.specs.Steps.{step, Left, remaining, Follows}
+use Rattle.jobs.specs.Steps.{Place, outset, before, wanted, number, mind, ending, falling, opened, acting, came, step}
+use Rattle.written.specs.Following.{Left, remaining, Follows}
 
 took : {A : Type 0} {c : Form A} {W : A → Type 0} → Lawful c W → (bs : List ℕ) (a : A) (rest : List ℕ) → c .read bs ≡ got a rest → Left bs rest
 took {c} l bs a rest e = record { front = c .write a; is = l .only bs a rest e .0 }

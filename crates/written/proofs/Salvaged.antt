@@ -42,13 +42,14 @@ use Rattle.blockfile.specs.declared.record.Head.{Head}
 use Rattle.blockfile.specs.File.{all, before, file, write-file, read-blocks, write-blocks}
 use Rattle.blockfile.proofs.Forms.{each-length}
 use Rattle.blockfile.proofs.Files.{blocks-back, blocks-only}
 use Rattle.jobs.specs.Rows.{spread, buffered}
 use Rattle.text.specs.Text.{refused-line}
 use Rattle.jobs.specs.Task.{Written, both, ahead, End, here, refused-at, begun, told-on, told, told-file, run}
 use Rattle.jobs.specs.Act.{call-for, given, call, told-end}
 use Rattle.mend.specs.Mend.{planned, range, moved, mended, mend, changes-of, before9, InRange, PixelsLow, lines, all-lines}
-use Rattle.jobs.specs.Salvage.{salvage, pixels-line}
-use Rattle.jobs.proofs.Versions.{spread-covers, each-mapped, all-mapped}
+use Rattle.jobs.specs.Salvage.{salvage}
+use Rattle.written.specs.Salvaged.{pixels-line}
+use Rattle.written.proofs.Versions.{spread-covers, each-mapped, all-mapped}
 use Rattle.mend.proofs.Mends.{in-range-stays, mended-in-range}
 
 -- ---- the buffer

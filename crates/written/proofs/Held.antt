@@ -1,16 +1,17 @@
 -- What a program holds while it runs: what was handed on, what its buffers hold, and what is left to do of the bytes in the input buffer
 -- and of whatever follows, come to the run of the whole input. For every task.
 use mathlib.Core.Path.{_≡_, refl, sym, ap, subst, _∙_}
-use mathlib.Core.Bool.{Bool, true, false}
+use mathlib.Core.Bool.{Bool, true}
 use mathlib.Core.List.{List, [], _++_, append-assoc, append-nil}
 use Prim.Native.Nat.{ℕ, _+_, _-_, _≤_}
 use native.Mathlib.Omega.{arith}
 use lib.ListN.{length, take, drop, length-take, length-drop, length-append}
 use lib.Seq.{take-add, sets, sets-eq, take-at}
 use Rattle.jobs.specs.Task.{Written, both, nothing, ahead, Task, run}
-use Rattle.jobs.specs.Steps.{Place, outset, remaining}
-use Rattle.jobs.specs.Output.{Next, Last}
-use Rattle.jobs.proofs.Handing.{ahead-ahead}
+use Rattle.jobs.specs.Steps.{Place, outset}
+use Rattle.written.specs.Following.{remaining}
+use Rattle.written.specs.Output.{Next, Last}
+use Rattle.written.proofs.Handing.{ahead-ahead}
 
 -- bytes that were put after others
 pub take-put : (bytes out : List ℕ) (put : ℕ) → put + length bytes ≤ length out
