@@ -22,17 +22,17 @@ use Rattle.av1.proofs.Related.{both-tab, Respects, step-related, run-re
 pub data Known : Type 0 where
   nought given level kept unknown : Known
 
--- the sum or difference of what is known, where the second is zero
-abbrev plus-zero : Known → Known → Known
-plus-zero k nought = k
-plus-zero k given = kept
-plus-zero k level = kept
-plus-zero k kept = kept
-plus-zero k unknown = kept
+abbrev is-nought : Known → Bool
+is-nought nought = true
+is-nought given = false
+is-nought level = false
+is-nought kept = false
+is-nought unknown = false
 
+-- the sum or difference of what is known
 abbrev mixed : Known → Known → Known
-mixed nought k = plus-zero nought k
-mixed level k = plus-zero level k
+mixed nought k = cond (is-nought k) nought kept
+mixed level k = cond (is-nought k) level kept
 mixed given k = kept
 mixed kept k = kept
 mixed unknown k = kept
@@ -42,16 +42,15 @@ is-2896 (pos n) = eqb n 2896
 is-2896 (negsuc n) = false
 
 -- x times p, the other being zero
+abbrev scaled : ℤ → Known → Known
+scaled p nought = nought
+scaled p given = cond (is-2896 p) level unknown
+scaled p level = unknown
+scaled p kept = unknown
+scaled p unknown = unknown
+
 abbrev turned : ℤ → Known → Known → Known
-turned p nought nought = nought
-turned p given nought = cond (is-2896 p) level unknown
-turned p level nought = unknown
-turned p kept nought = unknown
-turned p unknown nought = unknown
-turned p k given = unknown
-turned p k level = unknown
-turned p k kept = unknown
-turned p k unknown = unknown
+turned p u v = cond (is-nought v) (scaled p u) unknown
 
 abbrev knowing : Alg Known
 knowing = record { none = nought; cosine = λ c s. turned c; sine = λ c s. turned s; sum = mixed; diff = mixed }
@@ -65,11 +64,7 @@ inside given = false
 inside unknown = false
 
 abbrev calm : Known → Known → Bool
-calm k nought = inside k
-calm k given = false
-calm k level = false
-calm k kept = false
-calm k unknown = false
+calm u v = is-nought v && inside u
 
 abbrev still : List Step → List Known → Bool
 still [] us = true
@@ -98,6 +93,14 @@ module _ (lo hi d : ℤ) where
   Fact z kept = outside z lo hi ≡ false
   Fact z unknown = Unit {0}
 
+  -- by whether a number is known to be zero
+  on-nought : (P : Bool → Type 0) (y : ℤ) (v : Known) → Fact y v → (y ≡ pos 0 → P true) → P false → P (is-nought v)
+  on-nought P y nought g p q = p g
+  on-nought P y given g p q = q
+  on-nought P y level g p q = q
+  on-nought P y kept g p q = q
+  on-nought P y unknown g p q = q
+
   module _ (zero-inside : outside (pos 0) lo hi ≡ false) (level-inside : outside spread lo hi ≡ false) where
     -- a turn, by the number that multiplies x
     module _ (f : ℤ → ℤ → ℤ) (p : ℤ) (is : (x y : ℤ) → y ≡ pos 0 → f x y ≡ round2 (x *ℤ p) 12) where
@@ -105,34 +108,30 @@ module _ (lo hi d : ℤ) where
       by-2896 x y true q e g = is x y g ∙ ap₂ (λ (z w : ℤ). round2 (z *ℤ w) 12) e (2896-is p (subst T (sym q) tt))
       by-2896 x y false q e g = tt
 
-      turned-is : (x y : ℤ) (u v : Known) → Fact x u → Fact y v → Fact (f x y) (turned p u v)
+      scaled-is : (x y : ℤ) (u : Known) → Fact x u → y ≡ pos 0 → Fact (f x y) (scaled p u)
       unfolding round2 _>>_
-      turned-is x y nought nought e g = is x y g ∙ ap (λ (z : ℤ). round2 (z *ℤ p) 12) e ∙ ap (λ (z : ℤ). round2 z 12) (zero-*ℤ p)
-      turned-is x y given nought e g = by-2896 x y (is-2896 p) refl e g
-      turned-is x y level nought e g = tt
-      turned-is x y kept nought e g = tt
-      turned-is x y unknown nought e g = tt
-      turned-is x y k given e g = tt
-      turned-is x y k level e g = tt
-      turned-is x y k kept e g = tt
-      turned-is x y k unknown e g = tt
+      scaled-is x y nought e g = is x y g ∙ ap (λ (z : ℤ). round2 (z *ℤ p) 12) e ∙ ap (λ (z : ℤ). round2 z 12) (zero-*ℤ p)
+      scaled-is x y given e g = by-2896 x y (is-2896 p) refl e g
+      scaled-is x y level e g = tt
+      scaled-is x y kept e g = tt
+      scaled-is x y unknown e g = tt
+
+      turned-is : (x y : ℤ) (u v : Known) → Fact x u → Fact y v → Fact (f x y) (turned p u v)
+      turned-is x y u v e g = on-nought (λ b. Fact (f x y) (cond b (scaled p u) unknown)) y v g (scaled-is x y u e) tt
 
     -- a sum or a difference
     module _ (f : ℤ → ℤ → ℤ) (is : (x : ℤ) → f x (pos 0) ≡ x) where
       any-kept : (x y : ℤ) → Fact (clip (f x y) lo hi) kept
       any-kept x y = clip-kept (f x y) lo hi (pos 0) zero-inside
 
-      plus-zero-is : (x y : ℤ) (u : Known) (z : ℤ) → outside z lo hi ≡ false → ((w : ℤ) → w ≡ z → Fact w u) → x ≡ z
-          → (v : Known) → Fact y v → Fact (clip (f x y) lo hi) (plus-zero u v)
-      plus-zero-is x y u z o back e nought g = back (clip (f x y) lo hi) (ap (λ (w : ℤ). clip w lo hi) (ap₂ f e g ∙ is z) ∙ clip-inside z lo hi o)
-      plus-zero-is x y u z o back e given g = any-kept x y
-      plus-zero-is x y u z o back e level g = any-kept x y
-      plus-zero-is x y u z o back e kept g = any-kept x y
-      plus-zero-is x y u z o back e unknown g = any-kept x y
+      plus-zero : (x y z : ℤ) → outside z lo hi ≡ false → x ≡ z → y ≡ pos 0 → clip (f x y) lo hi ≡ z
+      plus-zero x y z o e g = ap (λ (w : ℤ). clip w lo hi) (ap₂ f e g ∙ is z) ∙ clip-inside z lo hi o
 
       mixed-is : (x y : ℤ) (u v : Known) → Fact x u → Fact y v → Fact (clip (f x y) lo hi) (mixed u v)
-      mixed-is x y nought v e g = plus-zero-is x y nought (pos 0) zero-inside (λ w h. h) e v g
-      mixed-is x y level v e g = plus-zero-is x y level spread level-inside (λ w h. h) e v g
+      mixed-is x y nought v e g =
+          on-nought (λ b. Fact (clip (f x y) lo hi) (cond b nought kept)) y v g (plus-zero x y (pos 0) zero-inside e) (any-kept x y)
+      mixed-is x y level v e g =
+          on-nought (λ b. Fact (clip (f x y) lo hi) (cond b level kept)) y v g (plus-zero x y spread level-inside e) (any-kept x y)
       mixed-is x y given v e g = any-kept x y
       mixed-is x y kept v e g = any-kept x y
       mixed-is x y unknown v e g = any-kept x y
@@ -155,13 +154,10 @@ module _ (lo hi d : ℤ) where
     inside-is x unknown t e = absurd t
 
     calm-is : (x y : ℤ) (u v : Known) → T (calm u v) → Fact x u → Fact y v → outside (x +ℤ y) lo hi || outside (x -ℤ y) lo hi ≡ false
-    calm-is x y u nought t e g =
-        let o = ap (λ (z : ℤ). outside z lo hi) (+ℤ-idr x) ∙ inside-is x u t e in
-        (λ i. outside (x +ℤ g i) lo hi || outside (x -ℤ g i) lo hi) ∙ (λ i. o i || o i)
-    calm-is x y u given t e g = absurd t
-    calm-is x y u level t e g = absurd t
-    calm-is x y u kept t e g = absurd t
-    calm-is x y u unknown t e g = absurd t
+    calm-is x y u v t e g =
+        on-nought (λ b. T (b && inside u) → outside (x +ℤ y) lo hi || outside (x -ℤ y) lo hi ≡ false) y v g
+        (λ z k. let o = ap (λ (w : ℤ). outside w lo hi) (+ℤ-idr x) ∙ inside-is x u k e in
+        (λ i. outside (x +ℤ z i) lo hi || outside (x -ℤ z i) lo hi) ∙ (λ i. o i || o i)) (λ k. absurd k) t
 
     no-hits : (ss : List Step) {t : List ℤ} {us : List Known} → Both Fact t us → T (still ss us) → hits lo hi ss t ≡ false
     no-hits [] h k = refl

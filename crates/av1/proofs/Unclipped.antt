@@ -11,7 +11,7 @@ use Rattle.av1.specs.Network.{Step, B, H, step, run}
 use Rattle.av1.specs.Values.{exact, clipped, hit, hits}
 
 module _ (lo hi : ℤ) where
-  step-unclipped : (s : Step) (t : List ℤ) → hit lo hi s t ≡ false → step (clipped lo hi) s t ≡ step exact s t
+  pub step-unclipped : (s : Step) (t : List ℤ) → hit lo hi s t ≡ false → step (clipped lo hi) s t ≡ step exact s t
   step-unclipped (B a b c s false) t e = refl
   step-unclipped (B a b c s true) t e = refl
   step-unclipped (H a b) t e =

@@ -14,7 +14,8 @@ use Rattle.av1.specs.Network.{Step, B, step, run}
 use Rattle.av1.specs.Values.{exact}
 use Rattle.dct.specs.Fitting.{Able, Ends, Turnable, Lonely}
 use Rattle.dct.specs.Stages.{turns, Turning}
-use Rattle.dct.proofs.Fits.{able-next, able-turn, able-lone, no-clip}
+use Rattle.av1.proofs.Bounds.{able-next}
+use Rattle.dct.proofs.Fits.{keep-small, able-turn, able-lone, no-clip}
 use Rattle.dct.proofs.Tables.{turns-at, turns-end}
 use Rattle.dct.proofs.Walk.{read-back}
 
@@ -63,7 +64,7 @@ module _ {tx64 flip : Bool} {ps : List ℕ} {cs : List ℤ} {t₀ : List ℤ} wh
       further e₀ =
           let e = e₀ ∙ read-back f g (λ x y. step exact (this x y) t) in
           let exactly = no-clip (pos 0) (pos 0) (getD ps i 0) (getD ps (i + 1) 0) (at cs i) (at cs (i + 1)) flip t in record {
-            able = subst⁻¹ (Able tx64 (ahead flip ps cs (i + 2))) (e ∙ exactly) (able-next none here);
+            able = subst⁻¹ (Able tx64 (ahead flip ps cs (i + 2))) (e ∙ exactly) (able-next here (keep-small none));
             same = ap (run exact (ahead flip ps cs (i + 2))) e ∙ ap (λ (l : List Step). run exact l t) (sym parted) ∙ come .same;
             inside = omega arith;
           }

@@ -7,7 +7,7 @@ use native.Mathlib.Omega.{arith}
 use lib.IntN.{ℤ, pos}
 use lib.ListN.{length, getD, drop, length-drop}
 use lib.Seq.{drop-cons}
-use Rattle.av1.specs.Network.{B, H}
+use Rattle.av1.specs.Network.{Step, B, H}
 use Rattle.dct.specs.Stages.{turns, joins}
 
 two-more : {A : Type 0} (l : List A) (i : ℕ) (d : A) → i + 1 < length l → drop i l ≡ getD l i d ∷ getD l (i + 1) d ∷ drop (i + 2) l
@@ -16,7 +16,14 @@ two-more l i d h =
     drop-cons l i d (omega arith) ∙ (λ k. getD l i d ∷ drop-cons l (suc i) d (omega arith) k) ∙ (λ k. getD l i d ∷ getD l (one k) d ∷ drop (two k) l)
 
 module _ (ps : List ℕ) (i : ℕ) where
-  pub joins-at : i + 1 < length ps → joins (drop i ps) ≡ H (getD ps i 0) (getD ps (i + 1) 0) ∷ joins (drop (i + 2) ps)
+  -- the butterfly that a table has at i, and those from i on
+  abbrev pub join-at : Step
+  join-at = H (getD ps i 0) (getD ps (i + 1) 0)
+
+  abbrev pub joins-from : List Step
+  joins-from = joins (drop i ps)
+
+  pub joins-at : i + 1 < length ps → joins-from ≡ join-at ∷ joins (drop (i + 2) ps)
   joins-at h = ap joins (two-more ps i 0 h)
 
   pub turns-at : (flip : Bool) (cs : List ℤ) → i + 1 < length ps → length ps ≡ length cs → turns flip (drop i ps) (drop i cs)

@@ -10,19 +10,17 @@ use mir.Syntax.{w32}
 use mir.Val.{SFits, toZ, ofZ}
 use mir.ValLaws.{toZ-ofZ}
 use Rattle.whole.specs.Both.{Both}
-use Rattle.whole.proofs.Held.{to2}
-use Rattle.av1.specs.Network.{Alg, Step, B, H, step, run}
+use Rattle.whole.proofs.Held.{to2, from2}
+use Rattle.av1.specs.Network.{Step, B, H, step, run}
 use Rattle.av1.specs.Values.{exact, clipped, hit, hits}
 use Rattle.av1.proofs.Related.{run-related}
+use Rattle.av1.proofs.Tail.{run-append}
 use Rattle.dct.specs.Halves.{before, last}
-use Rattle.dct.specs.Fitting.{Ends, Small, sizes, fitting}
+use Rattle.dct.specs.Fitting.{Ends, sizes, fits}
+use Rattle.av1.specs.Bounds.{Small, fitting}
 use Rattle.dct.specs.Stages.{cut, turns, joins, small, Turning, Joining, Joined, Ready, Through}
 use Rattle.dct.proofs.Fits.{keep-small, no-clip}
 use Rattle.dct.proofs.Order.{or-no}
-
-pub run-append : {A : Type 0} (𝓐 : Alg A) (ss rs : List Step) (xs : List A) → run 𝓐 (ss ++ rs) xs ≡ run 𝓐 rs (run 𝓐 ss xs)
-run-append 𝓐 [] rs xs = refl
-run-append 𝓐 (s ∷ ss) rs xs = run-append 𝓐 ss rs (step 𝓐 s xs)
 
 pub hits-append : (lo hi : ℤ) (ss rs : List Step) (t : List ℤ) → hits lo hi (ss ++ rs) t ≡ hits lo hi ss t || hits lo hi rs (run (clipped lo hi) ss t)
 hits-append lo hi [] rs t = refl
@@ -51,6 +49,10 @@ turns-quiet lo hi (H a b ∷ ss) t k = absurd k
 module _ {lo hi : ℤ} (f : SFits w32 lo) (g : SFits w32 hi) where
   pub read-back : {A : Type 0} (F : ℤ → ℤ → A) → F (toZ w32 (ofZ w32 lo)) (toZ w32 (ofZ w32 hi)) ≡ F lo hi
   read-back F = λ i. F (toZ-ofZ w32 lo f i) (toZ-ofZ w32 hi g i)
+
+pub joined-held : {ss : List Step} {lo hi : ℤ} {t u : List ℤ} {r : Bool} → SFits w32 lo → SFits w32 hi
+    → Joined ss (toZ w32 (ofZ w32 lo)) (toZ w32 (ofZ w32 hi)) t u r → Joined ss lo hi t u r
+joined-held {ss} {t = t} {u} {r} f g h = from2 (λ lo hi. Joined ss lo hi t u r) f g h
 
 -- after the first m steps from t: the work array u, and whether a clip has acted
 pub record Walked (tx64 : Bool) (lo hi : ℤ) (t : List ℤ) (m : ℕ) (u : List ℤ) (r : Bool) : Type 0 where
@@ -104,9 +106,7 @@ module _ {tx64 : Bool} {lo hi : ℤ} {t : List ℤ} {m : ℕ} {u : List ℤ} {r 
     turned k e = subst (Walked tx64 lo hi t m' v) (or-no r) (more (e ∙ turns-exact lo hi rs u k) (sym (turns-quiet lo hi rs u k)))
 
     pub joined : {k : Bool} → Joined rs (toZ w32 (ofZ w32 lo)) (toZ w32 (ofZ w32 hi)) u v k → Next v k
-    joined e =
-        more (e .elements ∙ read-back (w .low-fits) (w .high-fits) (λ x y. run (clipped x y) rs u))
-        (e .mark ∙ read-back (w .low-fits) (w .high-fits) (λ x y. hits x y rs u))
+    joined e = let k = joined-held (w .low-fits) (w .high-fits) e in more (k .elements) (k .mark)
 
 -- what the next stage's code asks: the first turns of the inputs go by `tx64`, the others do not. The test is computed for both.
 pub either : (P : Bool → Type 0) → P true → P false → (b : Bool) → P b
@@ -121,16 +121,16 @@ in-full h = false
 
 module _ {lo hi : ℤ} {t : List ℤ} {m : ℕ} {u : List ℤ} {r h : Bool} where
   pub ask-turns : (f : Bool → Bool) {flip : Bool} {ps : List ℕ} {cs : List ℤ} → Walked h lo hi t m u r → length ps ≡ length cs
-      → T (fitting (f true) (turns flip ps cs) (run sizes (cut 0 m) (small true)))
-      → T (fitting (f false) (turns flip ps cs) (run sizes (cut 0 m) (small false))) → Turning (f h) flip ps cs u
+      → T (fitting sizes fits (f true) (turns flip ps cs) (run sizes (cut 0 m) (small true)))
+      → T (fitting sizes fits (f false) (turns flip ps cs) (run sizes (cut 0 m) (small false))) → Turning (f h) flip ps cs u
   ask-turns f {flip} {ps} {cs} w e k l =
-      let ok = either (λ b. T (fitting (f b) (turns flip ps cs) (run sizes (cut 0 m) (small b)))) k l h in
+      let ok = either (λ b. T (fitting sizes fits (f b) (turns flip ps cs) (run sizes (cut 0 m) (small b)))) k l h in
       record { even = e; able = record { β = run sizes (cut 0 m) (small h); inside = w .inside; ok = ok } }
 
-  pub ask-joins : {ps : List ℕ} → Walked h lo hi t m u r → T (fitting false (joins ps) (run sizes (cut 0 m) (small true)))
-      → T (fitting false (joins ps) (run sizes (cut 0 m) (small false))) → Joining ps u (toZ w32 (ofZ w32 lo)) (toZ w32 (ofZ w32 hi))
+  pub ask-joins : {ps : List ℕ} → Walked h lo hi t m u r → T (fitting sizes fits false (joins ps) (run sizes (cut 0 m) (small true)))
+      → T (fitting sizes fits false (joins ps) (run sizes (cut 0 m) (small false))) → Joining ps u (toZ w32 (ofZ w32 lo)) (toZ w32 (ofZ w32 hi))
   ask-joins {ps} w k l =
-      let ok = either (λ b. T (fitting false (joins ps) (run sizes (cut 0 m) (small b)))) k l h in record {
+      let ok = either (λ b. T (fitting sizes fits false (joins ps) (run sizes (cut 0 m) (small b)))) k l h in record {
         able = record { β = run sizes (cut 0 m) (small h); inside = w .inside; ok = ok };
         ends = to2 Ends (w .low-fits) (w .high-fits) (w .ends);
       }

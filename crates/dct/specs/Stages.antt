@@ -11,7 +11,8 @@ use Rattle.whole.specs.Both.{Both}
 use Rattle.av1.specs.Network.{Step, B, H, run}
 use Rattle.av1.specs.Values.{clipped, hits}
 use Rattle.dct.specs.Halves.{before, last}
-use Rattle.dct.specs.Fitting.{Able, Ends, Small}
+use Rattle.dct.specs.Fitting.{Able, Ends}
+use Rattle.av1.specs.Bounds.{Small}
 
 -- steps i to before j of the DCT of 32 points by halves, which begins with those of 4, 8 and 16 points
 abbrev pub cut : ℕ → ℕ → List Step
@@ -60,6 +61,5 @@ pub record Ready (tx64 : Bool) (t : List ℤ) (lo hi : ℤ) : Type 0 where
   pub inside : Both Small t (small tx64)
   pub ends : Ends lo hi
 
-pub record Through (n : ℕ) (lo hi : ℤ) (t u : List ℤ) (r : Bool) : Type 0 where
-  pub elements : u ≡ run (clipped lo hi) (before n ++ last n) t
-  pub mark : r ≡ hits lo hi (before n ++ last n) t
+abbrev pub Through : ℕ → ℤ → ℤ → List ℤ → List ℤ → Bool → Type 0
+Through n = Joined (before n ++ last n)

@@ -1,9 +1,9 @@
 -- What the checks together say: a refusal meets the definition as it stands, and an acceptance gives all that a pass asks.
 use mathlib.Core.Path.{_≡_, refl, sym, ap, _∙_, subst, subst⁻¹}
-use mathlib.Core.Bool.{Bool, true, false, not, _&&_, _||_}
+use mathlib.Core.Bool.{Bool, true, false, not, _||_}
 use mathlib.Core.List.{List, [], _∷_}
 use mathlib.Core.Option.{Option, none, some}
-use Prim.Native.Nat.{ℕ, _*_, _-_, _/_, _≤_, _<_}
+use Prim.Native.Nat.{ℕ, _*_, _-_, _/_, _≤_}
 use native.Mathlib.Omega.{arith}
 use lib.Dec.{T, eqb, leb}
 use lib.IntN.{ℤ, pos, natAbs}
@@ -147,7 +147,8 @@ pub unranged-is : (c : List ℤ) (s : ℕ) → unranged c s ≡ defined false (e
 unfolding unranged
 unranged-is c s = refl
 
-pub done : {f : List ℤ → Passed} {n s : ℕ} {c d : List ℤ} {r : Bool} → len (side n) ≡ n → Made f n s c d r → Meets (accepted f (side n) s c) (Done r) d
+pub done : {f : List ℤ → Passed} {n s : ℕ} {c d : List ℤ} {r : Bool} → len (side n) ≡ n → Made f n s c d r
+    → Meets (accepted f (side n) s c) (Done r) d
 done {f} {s = s} {c} e h = record {
   answer = ap acceptance (h .mark) ∙ (λ i. acceptance (f (taken c s (sym e i)) .mark));
   elements = h .elements ∙ (λ i. put c s (f (taken c s (sym e i)) .values) (sym e i));

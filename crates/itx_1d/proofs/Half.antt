@@ -1,5 +1,5 @@
 -- E13: a pass of the lower half is the full pass on the list with zeros in the upper half of its elements, and what stood there does not matter.
-use mathlib.Core.Path.{_≡_, refl, sym, ap, ap₂, _∙_}
+use mathlib.Core.Path.{_≡_, refl, sym, ap, _∙_}
 use mathlib.Core.Logic.{_≢_}
 use mathlib.Core.Bool.{Bool, true, false, cond}
 use mathlib.Core.List.{List}

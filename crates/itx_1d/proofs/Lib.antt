@@ -7,3 +7,4 @@ pub mod Checks
 pub mod Accepted
 pub mod Half
 pub mod Unique
+pub mod Wht

@@ -6,24 +6,26 @@ use Prim.Native.Nat.{ℕ, zero, suc, _+_, _*_, _-_, _^_, _≤_}
 use native.Mathlib.Nat.{le-trans}
 use native.Mathlib.Omega.{arith}
 use lib.IntN.{ℤ, pos, _+ℤ_, _*ℤ_, natAbs}
-use lib.ListN.{getD, length, replicate, length-set}
+use lib.ListN.{getD, replicate}
 use Rattle.whole.specs.Numbers.{_>>_, round2, outside, low, high}
 use Rattle.whole.specs.Lists.{at, tab}
 use Rattle.whole.proofs.Counts.{tab-ext, replicate-tab, map-at, map-ext}
 use Rattle.whole.proofs.Floors.{floor-one}
-use Rattle.whole.proofs.Machine.{Within, E, var, lit, _⊕_, _⊝_, _⊛_, _≫_, bound}
+use Rattle.whole.proofs.Machine.{Within, var, lit, _⊕_, _⊝_, _⊛_, _≫_, bound}
 use Rattle.whole.proofs.Parts.{rep-self, rep-add, rep-mul}
 use Rattle.whole.proofs.Ranges.{zero-inside, range-abs, scaled, round-floor, scaled-inside, by-181}
 use Rattle.levels.specs.Sides.{Side, of4, of8, of16, of32, len, bits}
-use Rattle.av1.specs.Network.{Alg, Step, B, H, step, run, brev, steps, permuted, dct}
+use Rattle.av1.specs.Network.{run, brev, steps, permuted}
 use Rattle.av1.specs.Values.{exact, clipped}
 use Rattle.av1.specs.Passes.{av1-identity, av1-wht, av1-adst4, flipped}
 use Rattle.av1.proofs.Adst.{adst-zero, adst-small}
 use Rattle.av1.proofs.Known as Known
 use Rattle.av1.proofs.Unclipped.{unclipped}
+use Rattle.av1.proofs.Zeros.{at-tab}
 use Rattle.levels.specs.Manners.{four-only}
 use Rattle.itx_1d.specs.Passes.{Passed, identity, wht, pass, av1-pass}
 use Rattle.itx_1d.specs.Passes as Passes
+use Rattle.itx_1d.proofs.Wht.{t0, t1, t2, t3}
 use Rattle.levels.specs.declared.Kind.{Kind}
 use Rattle.levels.specs.declared.Kind.the-variants.{Dct, Identity, Wht, Adst, FlipAdst}
 
@@ -63,20 +65,22 @@ zeros n = tab n (λ i. pos 0)
 only-zero : (n : ℕ) → zeros n ≡ tab n (only (pos 0))
 only-zero n = tab-ext n (λ i. pos 0) (only (pos 0)) (λ i l. elim i [ zero ↦ refl | suc j ↦ refl ])
 
-identity-zero : (n : Side) → identity n (pos 0) ≡ pos 0
+pub identity-zero : (n : Side) → identity n (pos 0) ≡ pos 0
 unfolding identity round2 _>>_
 identity-zero of4 = refl
 identity-zero of8 = refl
 identity-zero of16 = refl
 identity-zero of32 = refl
 
+-- what is zero at zero is taken element by element
+pub mapped-at : (f : ℤ → ℤ) → f (pos 0) ≡ pos 0 → (xs : List ℤ) (i : ℕ) → at (map f xs) i ≡ f (at xs i)
+mapped-at f z xs i = ap (getD (map f xs) i) (sym z) ∙ map-at f xs i (pos 0)
+
 pub identity-at : (n : Side) (xs : List ℤ) (i : ℕ) → at (map (identity n) xs) i ≡ identity n (at xs i)
-identity-at n xs i = ap (getD (map (identity n) xs) i) (sym (identity-zero n)) ∙ map-at (identity n) xs i (pos 0)
+identity-at n xs i = mapped-at (identity n) (identity-zero n) xs i
 
 zero-at : (k x : ℕ) → at (zeros k) x ≡ pos 0
-zero-at zero x = refl
-zero-at (suc k) zero = refl
-zero-at (suc k) (suc x) = zero-at k x
+zero-at k x = at-tab (λ z. z ≡ pos 0) k (λ i. pos 0) refl (λ i l. refl) x
 
 wht-zero : wht (pos 0) (pos 0) (pos 0) (pos 0) ≡ zeros 4
 unfolding wht _>>_
@@ -112,7 +116,7 @@ module _ (n : Side) (m : ℕ) where
 
 -- ---- the specification
 
-identity-one : (n : Side) (v : ℤ) → identity n v ≡ av1-identity n v
+pub identity-one : (n : Side) (v : ℤ) → identity n v ≡ av1-identity n v
 unfolding identity Rattle.av1.specs.Passes.av1-identity
 identity-one of4 v =
     let q = round2 (v *ℤ pos 1697) 12 in let f = round-floor (v *ℤ pos 1697) 11 in let r = scaled v 1697 2048 in
@@ -156,16 +160,6 @@ len-power of8 = refl
 len-power of16 = refl
 len-power of32 = refl
 
-module _ {A : Type 0} (𝓐 : Alg A) where
-  step-length : (s : Step) (xs : List A) → length (step 𝓐 s xs) ≡ length xs
-  step-length (B a b c s false) xs = simp length-set
-  step-length (B a b c s true) xs = simp length-set
-  step-length (H a b) xs = simp length-set
-
-  pub run-length : (ss : List Step) (xs : List A) → length (run 𝓐 ss xs) ≡ length xs
-  run-length [] xs = refl
-  run-length (s ∷ ss) xs = run-length ss (step 𝓐 s xs) ∙ step-length s xs
-
 identity-small : (n : Side) (v : ℤ) (k : ℕ) → natAbs v ≤ k → natAbs (identity n v) ≤ 5 * k + 2
 unfolding identity round2 _>>_
 identity-small of4 v k h = le-trans (bound (v ∷ []) (k ∷ []) (h, tt) (var 0 ⊕ (var 0 ⊛ lit (pos 1697) ⊕ lit (pos 2048) ≫ 12))) (omega arith)
@@ -174,17 +168,12 @@ identity-small of16 v k h =
     le-trans (bound (v ∷ []) (k ∷ []) (h, tt) (var 0 ⊛ lit (pos 2) ⊕ (var 0 ⊛ lit (pos 1697) ⊕ lit (pos 1024) ≫ 11))) (omega arith)
 identity-small of32 v k h = le-trans (bound (v ∷ []) (k ∷ []) (h, tt) (var 0 ⊛ lit (pos 4))) (omega arith)
 
--- the WHT's steps and what it stores, of a, b, c, d
-abbrev t4 : E
-t4 = var 0 ⊕ var 1 ⊝ (var 2 ⊝ var 3) ≫ 1
-
 wht-small : (a b c d : ℤ) (k : ℕ) → Within (a ∷ b ∷ c ∷ d ∷ []) (k ∷ k ∷ k ∷ k ∷ []) → (i : ℕ) → natAbs (at (wht a b c d) i) ≤ 5 * k + 2
 unfolding wht _>>_
-wht-small a b c d k h zero = le-trans (bound (a ∷ b ∷ c ∷ d ∷ []) (k ∷ k ∷ k ∷ k ∷ []) h (var 0 ⊕ var 1 ⊝ (t4 ⊝ var 3))) (omega arith)
-wht-small a b c d k h (suc zero) = le-trans (bound (a ∷ b ∷ c ∷ d ∷ []) (k ∷ k ∷ k ∷ k ∷ []) h (t4 ⊝ var 3)) (omega arith)
-wht-small a b c d k h (suc (suc zero)) = le-trans (bound (a ∷ b ∷ c ∷ d ∷ []) (k ∷ k ∷ k ∷ k ∷ []) h (t4 ⊝ var 1)) (omega arith)
-wht-small a b c d k h (suc (suc (suc zero))) =
-    le-trans (bound (a ∷ b ∷ c ∷ d ∷ []) (k ∷ k ∷ k ∷ k ∷ []) h (var 2 ⊝ var 3 ⊕ (t4 ⊝ var 1))) (omega arith)
+wht-small a b c d k h zero = le-trans (bound (a ∷ b ∷ c ∷ d ∷ []) (k ∷ k ∷ k ∷ k ∷ []) h (t0 ⊝ t3)) (omega arith)
+wht-small a b c d k h (suc zero) = le-trans (bound (a ∷ b ∷ c ∷ d ∷ []) (k ∷ k ∷ k ∷ k ∷ []) h t3) (omega arith)
+wht-small a b c d k h (suc (suc zero)) = le-trans (bound (a ∷ b ∷ c ∷ d ∷ []) (k ∷ k ∷ k ∷ k ∷ []) h t1) (omega arith)
+wht-small a b c d k h (suc (suc (suc zero))) = le-trans (bound (a ∷ b ∷ c ∷ d ∷ []) (k ∷ k ∷ k ∷ k ∷ []) h (t2 ⊕ t1)) (omega arith)
 wht-small a b c d k h (suc (suc (suc (suc i)))) = omega arith
 
 module _ (n : Side) (m : ℕ) (xs : List ℤ) where

@@ -1,14 +1,13 @@
 -- The DCT on the work array is document 01's pass on the elements.
 use mathlib.Core.Path.{_≡_, refl, sym, ap, _∙_, subst, subst⁻¹}
 use mathlib.Core.Bool.{Bool, true, false, cond, _&&_}
-use mathlib.Core.List.{List, [], _∷_, _++_}
+use mathlib.Core.List.{List, _++_}
 use Prim.Native.Nat.{ℕ, zero, suc, _+_, _*_, _-_, _%_, _≤_, _<_}
 use native.Mathlib.Nat.{le-trans, le-refl, div-le-self}
 use native.Mathlib.Omega.{arith}
 use lib.Dec.{eqb}
 use lib.IntN.{ℤ, pos, natAbs}
 use lib.ListN.{replicate, set}
-use borrow.Author.Tests.{ne-eqb}
 use mir.Syntax.{w32}
 use mir.Val.{SFits, toZ, ofZ}
 use Rattle.whole.specs.Numbers.{low, high}
@@ -18,11 +17,12 @@ use Rattle.whole.proofs.Counts.{tab-at}
 use Rattle.levels.specs.Sides.{Side, of4, of8, of16, of32, len, bits, side}
 use Rattle.av1.specs.Network.{permuted, run, steps}
 use Rattle.av1.specs.Values.{clipped, hits}
+use Rattle.av1.proofs.Zeros.{at-zeros, at-padded}
 use Rattle.dct.specs.Halves.{before, last}
-use Rattle.dct.specs.Fitting.{Small, Ends}
+use Rattle.av1.specs.Bounds.{Small}
+use Rattle.dct.specs.Fitting.{Ends}
 use Rattle.dct.specs.Stages.{Through, reach, small}
 use Rattle.dct.proofs.Order.{order, mark-order}
-use Rattle.dct.proofs.Walk.{read-back}
 use Rattle.levels.specs.declared.Kind.the-variants.{Dct}
 use Rattle.itx_1d.specs.Passes.{pass}
 use Rattle.itx_1d.specs.Calls.{taken, put}
@@ -76,16 +76,6 @@ ends-of {lo} {hi} g =
 
 -- ---- what the work array holds afterwards
 
-at-zeros : (k i : ℕ) → at (replicate k (pos 0)) i ≡ pos 0
-at-zeros zero i = refl
-at-zeros (suc k) zero = refl
-at-zeros (suc k) (suc i) = at-zeros k i
-
-at-padded : (xs : List ℤ) (k i : ℕ) → at (xs ++ replicate k (pos 0)) i ≡ at xs i
-at-padded [] k i = at-zeros k i
-at-padded (x ∷ xs) k zero = refl
-at-padded (x ∷ xs) k (suc i) = at-padded xs k i
-
 put-ext : (c : List ℤ) (s : ℕ) (vs ws : List ℤ) → ((i : ℕ) → at vs i ≡ at ws i) → (k : ℕ) → put c s vs k ≡ put c s ws k
 unfolding put
 put-ext c s vs ws h zero = refl
@@ -107,20 +97,12 @@ module _ (k : Side) (m : ℕ) (xs : List ℤ) {u : List ℤ} {r : Bool} (t : Thr
   dct-value i =
       let ran : List ℤ → List ℤ = run (clipped (low m) (high m)) (steps (bits k)) in
       ap (λ (l : List ℤ). at l i) (t .elements ∙ order (clipped (low m) (high m)) k cell)
-      ∙ at-padded (ran (tab (len k) cell)) (32 - len k) i ∙ ap (λ (l : List ℤ). at (ran l) i) (reversed (low m) (high m) k xs)
+      ∙ at-padded (ran (tab (len k) cell)) (replicate (32 - len k) (pos 0)) (at-zeros (32 - len k)) i
+      ∙ ap (λ (l : List ℤ). at (ran l) i) (reversed (low m) (high m) k xs)
 
   dct-mark : r ≡ pass Dct k m xs .mark
   unfolding pass
   dct-mark = t .mark ∙ mark-order (low m) (high m) k cell ∙ ap (hits (low m) (high m) (steps (bits k))) (reversed (low m) (high m) k xs)
-
--- ---- a callee's ends, and the length that is none of the first three
-
-pub through-held : {n : ℕ} {lo hi : ℤ} {t u : List ℤ} {r : Bool} → SFits w32 lo → SFits w32 hi
-    → Through n (toZ w32 (ofZ w32 lo)) (toZ w32 (ofZ w32 hi)) t u r → Through n lo hi t u r
-through-held {n} {lo} {hi} {t} f g h = record {
-  elements = h .elements ∙ read-back f g (λ x y. run (clipped x y) (before n ++ last n) t);
-  mark = h .mark ∙ read-back f g (λ x y. hits x y (before n ++ last n) t);
-}
 
 -- the whole of a DCT pass: of n elements xs
 module _ {lo hi : ℤ} {t u : List ℤ} {r : Bool} (n : ℕ) (xs : List ℤ) (g : Ranged lo hi) (e : len (side n) ≡ n)
@@ -145,11 +127,3 @@ pub dct-is : (tx64 : Bool) {lo hi : ℤ} {t u : List ℤ} {r : Bool} (c : List �
 dct-is tx64 {lo} {u = u} c s n g e q h =
     let xs = read tx64 (side n) (taken c s n) in
     record { elements = put-ext c s u (pass Dct (side n) (natAbs lo) xs .values) (value-is n xs g e q h) n; mark = mark-is n xs g e q h }
-
--- of length n, where k is n's side
-pub through-as : {lo hi : ℤ} {t u : List ℤ} {r : Bool} (n : ℕ) (k : Side) → side n ≡ k → SFits w32 lo → SFits w32 hi
-    → Through (bits k - 1) (toZ w32 (ofZ w32 lo)) (toZ w32 (ofZ w32 hi)) t u r → Through (bits (side n) - 1) lo hi t u r
-through-as {lo} {hi} {t} {u} {r} n k e f g h = subst⁻¹ (λ (j : Side). Through (bits j - 1) lo hi t u r) e (through-held f g h)
-
-pub sided-32 : (n : ℕ) → (n ≡ 4 → ⊥) → (n ≡ 8 → ⊥) → (n ≡ 16 → ⊥) → side n ≡ of32
-sided-32 n p q r = λ i. cond (ne-eqb n 4 p i) of4 (cond (ne-eqb n 8 q i) of8 (cond (ne-eqb n 16 r i) of16 of32))

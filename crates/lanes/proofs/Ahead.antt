@@ -9,7 +9,7 @@ use lib.ListN.{length}
 use Rattle.av1.specs.Network.{Step, step, run}
 use Rattle.av1.specs.Values.{exact}
 use Rattle.lanes.specs.Lanes.{lane, OnLane, Able}
-use Rattle.lanes.proofs.Fits.{able-next}
+use Rattle.av1.proofs.Bounds.{grows, able-next}
 
 pub record Come (tx64 : Bool) (l : ℕ) (ss : List Step) (t₀ : List ℤ) (rest : List Step) (t : List ℤ) : Type 0 where
   able : Able tx64 rest (lane t l)
@@ -31,7 +31,7 @@ module _ {tx64 : Bool} {l : ℕ} {ss : List Step} {t₀ : List ℤ} where
 
       pub further : {u : List ℤ} → OnLane l (step exact s) t u → Come tx64 l ss t₀ rs u
       further o = record {
-        able = subst⁻¹ (Able tx64 rs) (o .own) (able-next able-here);
+        able = subst⁻¹ (Able tx64 rs) (o .own) (able-next able-here grows);
         same = ap (run exact rs) (o .own) ∙ (λ i. run exact (sym parted i) (lane t l)) ∙ come .same;
         others = λ k h d. o .others k h d ∙ come .others k h d;
         long = o .long ∙ come .long;

@@ -10,18 +10,20 @@ use lib.IntN.{ℤ, natAbs}
 use lib.ListN.{length}
 use mir.Syntax.{w32}
 use mir.Val.{SFits, toZ, ofZ}
-use Rattle.av1.specs.Network.{Step, run, step}
+use Rattle.av1.specs.Network.{Step, run}
 use Rattle.av1.specs.Values.{clipped, hits}
 use Rattle.whole.specs.Lists.{at, tab}
 use Rattle.whole.proofs.Held.{to2, from2}
 use Rattle.levels.specs.Sides.{Side, of4, of8, of16, of32, len}
 use Rattle.whole.specs.Both.{Both, none, one}
 use Rattle.av1.proofs.Related.{both-tab, run-related}
-use Rattle.dct.specs.Fitting.{Ends, Small, sizes}
+use Rattle.dct.specs.Fitting.{Ends, sizes}
+use Rattle.av1.specs.Bounds.{Small, growth, fitting}
 use Rattle.dct.proofs.Fits.{keep-small}
 use Rattle.dct.specs.Stages.{cut, reach}
-use Rattle.dct.proofs.Walk.{run-append, hits-append, either}
-use Rattle.lanes.specs.Lanes.{lane, fitting}
+use Rattle.av1.proofs.Tail.{run-append}
+use Rattle.dct.proofs.Walk.{hits-append, either}
+use Rattle.lanes.specs.Lanes.{lane, fits}
 use Rattle.lanes.specs.Stages.{staged, Sweeping, Left, Ready}
 
 -- ---- the bounds of a lane: n elements that are small, and whatever stands after them
@@ -81,7 +83,7 @@ begin f g q = record {
 
 -- whether the steps rs can be run after the first m, computed
 abbrev Passed : (Bool → Bool) → Side → ℕ → List Step → Bool → Type 0
-Passed f k m rs b = (rest : List ℕ) → T (fitting (f b) rs (run sizes (cut 0 m) (tab (len k) (reach b) ++ rest)))
+Passed f k m rs b = (rest : List ℕ) → T (fitting growth fits (f b) rs (run sizes (cut 0 m) (tab (len k) (reach b) ++ rest)))
 
 module _ {h : Bool} {n w : ℕ} {t : List ℤ} {lo hi : ℤ} {m : ℕ} {u : List ℤ} {r : ℕ} where
   -- as far as the next call, which leaves v and j lanes

@@ -10,7 +10,7 @@ use lib.Dec.{eqb}
 use lib.IntN.{ℤ, pos}
 use lib.ListN.{length, set, length-set}
 use lib.Seq.{getD-set-same, getD-set-other, ext-getD}
-use Rattle.whole.specs.Lists.{at, tab}
+use Rattle.whole.specs.Lists.{at}
 use Rattle.whole.proofs.Counts.{tab-at, tab-length, tab-ext}
 use Rattle.av1.specs.Network.{B, step}
 use Rattle.av1.specs.Values.{exact, turn-x, turn-y}

@@ -1,59 +1,43 @@
 -- A stage on one lane after the other; and stage after stage.
 use mathlib.Core.Path.{_≡_, refl, sym, ap, ap₂, _∙_, subst, subst⁻¹}
-use mathlib.Core.Bool.{Bool, true, false, cond, _&&_, _||_}
+use mathlib.Core.Bool.{Bool, true, false, cond, _||_}
 use mathlib.Core.List.{List, [], _∷_, _++_}
 use Prim.Native.Nat.{ℕ, _+_, _≤_, _<_}
 use native.Mathlib.Numerals.{add-one}
 use native.Mathlib.Omega.{arith}
 use lib.Dec.{T}
-use lib.IntN.{ℤ, _+ℤ_, _-ℤ_}
-use lib.ListN.{length, set}
-use mir.Facts.{and-yes}
+use lib.IntN.{ℤ}
+use lib.ListN.{length}
+use mir.Facts.{and-yes, yes-and}
 use mir.Syntax.{w32}
 use mir.Val.{SFits, toZ, ofZ}
-use Rattle.whole.specs.Numbers.{outside}
-use Rattle.whole.specs.Lists.{at, any}
+use Rattle.whole.specs.Lists.{any}
 use Rattle.whole.proofs.Held.{from2}
-use Rattle.whole.proofs.Clips.{or-false, clip-inside}
+use Rattle.whole.proofs.Clips.{or-false}
 use Rattle.whole.proofs.Counts.{any-snoc, none-of-any, last-or-less}
 use Rattle.av1.specs.Network.{Step, B, H, step, run}
 use Rattle.av1.specs.Values.{exact, clipped, hit, hits}
 use Rattle.dct.specs.Stages.{turns, joins}
-use Rattle.dct.proofs.Fits as Bounds
-use Rattle.dct.proofs.Walk.{run-append, read-back}
-use Rattle.lanes.specs.Lanes.{lane, OnLane, far, growth, fits, fitting, Able}
+use Rattle.av1.specs.Bounds.{growth, fitting}
+use Rattle.av1.proofs.Bounds.{grows, able-first, able-after}
+use Rattle.av1.proofs.Tail.{run-append}
+use Rattle.av1.proofs.Unclipped.{step-unclipped}
+use Rattle.dct.proofs.Walk.{read-back}
+use Rattle.lanes.specs.Lanes.{lane, OnLane, far, fits, Able}
 use Rattle.lanes.specs.Stages.{Turning, Mixing, Mixed, Staging, staged, Sweeping, Left}
-use Rattle.lanes.proofs.Fits.{able-next}
 
 -- ---- steps in a row
-
-both : (a b : Bool) → T a → T b → T (a && b)
-both true b h g = g
-both false b h g = absurd h
-
-able-first : {h : Bool} (xs ys : List Step) {L : List ℤ} → Able h (xs ++ ys) L → Able h xs L
-able-first {h} xs ys w = record { β = w .β; inside = w .inside; ok = go xs (w .β) (w .ok) }
-  where
-    go : (zs : List Step) (β : List ℕ) → T (fitting h (zs ++ ys) β) → T (fitting h zs β)
-    go [] β k = tt
-    go (z ∷ zs) β k =
-        let p = and-yes (fits h z β) (fitting h (zs ++ ys) (step growth z β)) k in
-        both (fits h z β) _ (p .0) (go zs (step growth z β) (p .1))
-
-able-after : {h : Bool} (xs ys : List Step) {L : List ℤ} → Able h (xs ++ ys) L → Able h ys (run exact xs L)
-able-after [] ys w = w
-able-after (x ∷ xs) ys w = able-after xs ys (able-next w)
 
 -- a butterfly asks the same either way
 able-joins : {h : Bool} (ps : List ℕ) {L : List ℤ} → Able h (joins ps) L → Able false (joins ps) L
 able-joins {h} ps w = record { β = w .β; inside = w .inside; ok = go ps (w .β) (w .ok) }
   where
-    go : (qs : List ℕ) (β : List ℕ) → T (fitting h (joins qs) β) → T (fitting false (joins qs) β)
+    go : (qs : List ℕ) (β : List ℕ) → T (fitting growth fits h (joins qs) β) → T (fitting growth fits false (joins qs) β)
     go [] β k = tt
     go (a ∷ []) β k = tt
     go (a ∷ b ∷ qs) β k =
-        let p = and-yes (fits h (H a b) β) (fitting h (joins qs) (step growth (H a b) β)) k in
-        both (fits h (H a b) β) _ (p .0) (go qs (step growth (H a b) β) (p .1))
+        let p = and-yes (fits h (H a b) β) (fitting growth fits h (joins qs) (step growth (H a b) β)) k in
+        yes-and (fits h (H a b) β) _ (p .0) (go qs (step growth (H a b) β) (p .1))
 
 then-on : {l : ℕ} {t u v : List ℤ} (xs ys : List Step) → OnLane l (run exact xs) t u → OnLane l (run exact ys) u v
     → OnLane l (run exact (xs ++ ys)) t v
@@ -90,7 +74,7 @@ module _ {h flip b : Bool} {ps : List ℕ} {cs : List ℤ} {js : List ℕ} {t : 
     asks-mixes = record {
       long = one .long ∙ known .long;
       l-in = known .l-in;
-      able = able-joins js (subst⁻¹ (Able h (joins js)) (one .own) (able-after xs (joins js) (known .able)));
+      able = able-joins js (subst⁻¹ (Able h (joins js)) (one .own) (able-after grows xs (joins js) (known .able)));
     }
 
     pub lane-staged : {lo hi : ℤ} {z : List ℤ} {m : Bool} → SFits w32 lo → SFits w32 hi
@@ -103,6 +87,11 @@ module _ {h flip b : Bool} {ps : List ℕ} {cs : List ℤ} {js : List ℕ} {t : 
         })
 
 -- ---- the first k lanes are done
+
+-- whether some line is such, of one line more
+pub any-more : {m r : Bool} (k : ℕ) (f : ℕ → Bool) → m ≡ any k f → r ≡ f k → m || r ≡ any (k + 1) f
+any-more k f e g = (λ i. e i || g i) ∙ sym (any-snoc k f) ∙ ap (λ (n : ℕ). any n f) (sym (add-one k))
+
 pub record Swept (ss : List Step) (lo hi : ℤ) (t : List ℤ) (k : ℕ) (u : List ℤ) (r : Bool) : Type 0 where
   pub long : length u ≡ 1024
   pub done : (l : ℕ) → l < k → lane u l ≡ run exact ss (lane t l)
@@ -141,24 +130,16 @@ module _ {h flip : Bool} {ps : List ℕ} {cs : List ℤ} {js : List ℕ} {w : �
               last-or-less l k (λ (i : ℕ). lane v i ≡ run exact ss (lane t i)) (omega arith) is
               (λ p. o .elements .others l (omega (arith, q .width)) (λ z. omega arith) ∙ d .done l p);
           left = λ l p g. o .elements .others l g (λ z. omega arith) ∙ d .left l (omega arith) g;
-          seen =
-              (λ i. d .seen i || (o .seen ∙ ap (far lo hi ss) same) i) ∙ sym (any-snoc k (λ l. far lo hi ss (lane t l)))
-              ∙ ap (λ (n : ℕ). any n (λ l. far lo hi ss (lane t l))) (sym (add-one k));
+          seen = any-more k (λ l. far lo hi ss (lane t l)) (d .seen) (o .seen ∙ ap (far lo hi ss) same);
         }
 
 -- ---- where nothing lies outside, a clip changes nothing
 
 module _ (lo hi : ℤ) where
-  step-same : (s : Step) (L : List ℤ) → hit lo hi s L ≡ false → step exact s L ≡ step (clipped lo hi) s L
-  step-same (B a b c s flip) L e = Bounds.no-clip lo hi a b c s flip L
-  step-same (H a b) L e =
-      let o = or-false (outside (at L a +ℤ at L b) lo hi) (outside (at L a -ℤ at L b) lo hi) e in
-      λ i. set (set L a (sym (clip-inside (at L a +ℤ at L b) lo hi (o .0)) i)) b (sym (clip-inside (at L a -ℤ at L b) lo hi (o .1)) i)
-
   near : (ss : List Step) (L : List ℤ) → far lo hi ss L ≡ false → (run exact ss L ≡ run (clipped lo hi) ss L) × (hits lo hi ss L ≡ false)
   near [] L e = (refl, refl)
   near (s ∷ ss) L e =
-      let o = or-false (hit lo hi s L) (far lo hi ss (step exact s L)) e in let same = step-same s L (o .0) in
+      let o = or-false (hit lo hi s L) (far lo hi ss (step exact s L)) e in let same = sym (step-unclipped lo hi s L (o .0)) in
       let r = near ss (step exact s L) (o .1) in
       (r .0 ∙ ap (run (clipped lo hi) ss) same, ap₂ (λ (a b : Bool). a || b) (o .0) (ap (hits lo hi ss) (sym same) ∙ r .1))
 

@@ -3,16 +3,16 @@ use mathlib.Core.Path.{_≡_}
 use mathlib.Core.Bool.{Bool, true, false, not, _&&_, _||_}
 use mathlib.Core.List.{List, [], _∷_}
 use mathlib.Core.Logic.{_≢_}
-use Prim.Native.Nat.{ℕ, suc, _+_, _*_, _/_, _%_, _≤_, _<_}
-use lib.Dec.{T, leb, ltb}
+use Prim.Native.Nat.{ℕ, _+_, _*_, _%_, _≤_, _<_}
+use lib.Dec.{leb}
 use lib.IntN.{ℤ, pos, natAbs, _-ℤ_}
-use lib.ListN.{getD, length}
+use lib.ListN.{length}
 use Rattle.whole.specs.Lists.{at, tab}
 use Rattle.intops.specs.Asked.{reduced, Slight}
-use Rattle.av1.specs.Network.{Alg, Step, B, H, step}
+use Rattle.av1.specs.Network.{Step, B, H, step}
 use Rattle.av1.specs.Values.{exact, hit}
-use Rattle.whole.specs.Both.{Both}
-use Rattle.dct.specs.Fitting.{Small, lonely}
+use Rattle.av1.specs.Bounds.{growth, two-fit, AbleBy}
+use Rattle.dct.specs.Fitting.{lonely}
 
 unfoldable pub lane : List ℤ → ℕ → List ℤ
 lane t l = tab 32 (λ i. at t (i * 32 + l))
@@ -30,34 +30,19 @@ far lo hi (s ∷ ss) t = hit lo hi s t || far lo hi ss (step exact s t)
 
 -- ---- bounds through steps without a clip, computed on the steps
 
-abbrev turned : ℕ → ℕ → ℤ → ℤ → ℕ
-turned x y p q = suc ((x * natAbs p + y * natAbs q + 2048) / 4096)
-
-abbrev pub growth : Alg ℕ
-growth = record { none = 0; cosine = λ c s x y. turned x y c s; sine = λ c s x y. turned x y s c; sum = λ x y. x + y; diff = λ x y. x + y }
-
 abbrev pub slight : ℤ → Bool
 slight p = leb (natAbs p) 4096 && leb (natAbs (reduced p)) 2047
 
-abbrev pub two-rows : ℕ → ℕ → List ℕ → ℕ → Bool
-two-rows a b β most = (ltb a 32 && ltb b 32) && (leb (getD β a 0) most && leb (getD β b 0) most)
-
 abbrev pub turning : ℕ → ℕ → ℤ → ℤ → List ℕ → Bool
-turning a b c s β = two-rows a b β 524288 && (slight c && (slight s && slight (pos 0 -ℤ s)))
+turning a b c s β = two-fit a b β 524288 && (slight c && (slight s && slight (pos 0 -ℤ s)))
 
 abbrev pub fits : Bool → Step → List ℕ → Bool
 fits tx64 (B a b c s flip) β = turning a b c s β && (not tx64 || lonely a b c s β)
-fits tx64 (H a b) β = two-rows a b β 1073741823
-
-abbrev pub fitting : Bool → List Step → List ℕ → Bool
-fitting tx64 [] β = true
-fitting tx64 (s ∷ ss) β = fits tx64 s β && fitting tx64 ss (step growth s β)
+fits tx64 (H a b) β = two-fit a b β 1073741823
 
 -- a lane is such that the steps can be run, with `tx64` by turns of one element alone
-pub record Able (tx64 : Bool) (ss : List Step) (L : List ℤ) : Type 0 where
-  pub β : List ℕ
-  pub inside : Both Small L β
-  pub ok : T (fitting tx64 ss β)
+abbrev pub Able : Bool → List Step → List ℤ → Type 0
+Able = AbleBy growth fits
 
 -- what a step asks of two elements of lane l
 pub record Paired (t : List ℤ) (l a b most : ℕ) : Type 0 where

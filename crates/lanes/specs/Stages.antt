@@ -7,7 +7,7 @@ use lib.IntN.{ℤ, natAbs}
 use lib.ListN.{length}
 use Rattle.whole.specs.Lists.{at}
 use Rattle.av1.specs.Network.{Step, run}
-use Rattle.av1.specs.Values.{exact, clipped, hit, hits}
+use Rattle.av1.specs.Values.{exact, clipped, hits}
 use Rattle.dct.specs.Fitting.{Ends}
 use Rattle.dct.specs.Stages.{turns, joins, reach}
 use Rattle.lanes.specs.Lanes.{lane, OnLane, far, Able}

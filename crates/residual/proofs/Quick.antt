@@ -18,7 +18,7 @@ use Rattle.lanes.specs.Lanes.{lane}
 use Rattle.lanes.specs.Stages.{Left, Ready}
 use Rattle.lanes.proofs.Lanes.{lane-at}
 use Rattle.lanes.proofs.Chain.{parted}
-use Rattle.lanes.proofs.Tail.{below, run-length, run-front, hits-front}
+use Rattle.av1.proofs.Tail.{below, run-length, run-front, hits-front}
 use Rattle.levels.specs.declared.Kind.the-variants.{Dct}
 use Rattle.itx_1d.specs.Passes.{pass}
 use Rattle.itx_1d.specs.Inner.{source, gathered, Ranged}

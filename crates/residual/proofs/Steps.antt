@@ -4,12 +4,12 @@ use mathlib.Core.Logic.{_≢_}
 use mathlib.Core.Bool.{Bool, false, _||_}
 use mathlib.Core.List.{List}
 use Prim.Native.Nat.{ℕ, _+_, _*_, _≤_, _<_}
-use native.Mathlib.Numerals.{add-one}
 use native.Mathlib.Omega.{arith}
 use lib.IntN.{ℤ, natAbs}
 use lib.ListN.{length}
-use Rattle.whole.specs.Lists.{at, tab, any}
-use Rattle.whole.proofs.Counts.{tab-ext, last-or-less, any-snoc, any-none}
+use Rattle.whole.specs.Lists.{at, tab}
+use Rattle.whole.proofs.Counts.{tab-ext, last-or-less, any-none}
+use Rattle.lanes.proofs.Swept.{any-more}
 use Rattle.levels.specs.Sides.{len, side}
 use Rattle.levels.specs.declared.Kind.{Kind}
 use Rattle.levels.specs.declared.Plan.{Plan}
@@ -21,10 +21,6 @@ use Rattle.residual.specs.Inner.{Filled, HoldsIn, loaded, row-by, row-ma
 use Rattle.residual.proofs.Fills.{filled-again, rows-more}
 use Rattle.residual.proofs.Lines.{part, back, Line, passable, line-filled, line-mark}
 use Rattle.residual.proofs.Places.{by-row, same-column}
-
--- the mark of one line more
-any-more : {m r : Bool} (k : ℕ) (f : ℕ → Bool) → m ≡ any k f → r ≡ f k → m || r ≡ any (k + 1) f
-any-more k f e g = (λ i. e i || g i) ∙ sym (any-snoc k f) ∙ ap (λ (n : ℕ). any n f) (sym (add-one k))
 
 -- rows of one kind, none of which has the mark
 pub rows-are : {p : Plan} {m r : ℕ} {c u : List ℤ} (k : Kind) → p .rows ≡ k

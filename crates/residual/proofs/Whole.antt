@@ -2,17 +2,17 @@
 use mathlib.Core.Path.{_≡_, refl, sym, ap, ap₂, _∙_, subst, subst⁻¹}
 use mathlib.Core.Bool.{Bool, true, false, cond, _||_}
 use mathlib.Core.List.{List}
-use Prim.Native.Nat.{ℕ, zero, suc, _+_, _*_, _/_, _%_, _≤_, _<_}
+use Prim.Native.Nat.{ℕ, zero, _+_, _*_, _/_, _%_, _≤_, _<_}
 use native.Mathlib.Nat.{le-trans, div-add-mod', div-lt-iff-lt-mul, mod-lt, mul-le-mul-right}
 use native.Mathlib.Omega.{arith}
 use borrow.Author.Tests.{ltb-true, ltb-false}
 use lib.Dec.{T, ltb, lit≤}
 use lib.IntN.{ℤ, pos, natAbs}
-use lib.ListN.{length}
 use Rattle.whole.specs.Numbers.{round2, clip, low, high}
 use Rattle.whole.specs.Lists.{at, tab}
 use Rattle.whole.proofs.Clips.{clip-abs}
 use Rattle.whole.proofs.Counts.{tab-ext, any-ext}
+use Rattle.av1.proofs.Zeros.{at-tab}
 use Rattle.levels.specs.Sides.{Side, side}
 use Rattle.levels.specs.declared.Kind.{Kind}
 use Rattle.levels.specs.declared.Kind.the-variants.{Wht}
@@ -73,12 +73,6 @@ columns-left e along kind n m xs both g t h i = go (is-wht along) both h
         → natAbs (at (passed-by e kind n m xs .values) i) ≤ 16777216
     go true f h = subst⁻¹ (λ (k : Kind). natAbs (at (passed-by e k n m xs .values) i) ≤ 16777216) (f tt) (wht e h)
     go false f h = other e t h
-
--- what holds of zero and of the first n holds of every element
-at-tab : (P : ℤ → Type 0) (n : ℕ) (f : ℕ → ℤ) → P (pos 0) → ((i : ℕ) → i < n → P (f i)) → (i : ℕ) → P (at (tab n f) i)
-at-tab P zero f z h i = z
-at-tab P (suc n) f z h zero = h 0 (omega arith)
-at-tab P (suc n) f z h (suc i) = at-tab P n (λ j. f (suc j)) z (λ j l. h (suc j) (omega arith)) i
 
 -- what holds of zero and of the rows holds of every number of the block
 pub at-holds : {n w k : ℕ} {f : ℕ → ℕ → ℤ} {t : List ℤ} (P : ℤ → Type 0) → 0 < w → HoldsIn n w k f t → P (pos 0)

@@ -14,7 +14,7 @@ use Rattle.whole.specs.Both.{Both, none, one}
 use Rattle.whole.proofs.Counts.{tab-at, tab-length}
 use Rattle.levels.specs.Sides.{Side, of4, of8, of16, of32, bits}
 use Rattle.av1.specs.Network.{brev}
-use Rattle.spec_engine.specs.Lines.{Small}
+use Rattle.av1.specs.Bounds.{Small}
 use Rattle.spec_engine.specs.Arrays.{points, Points, begun, Begins}
 
 set-next : (i : ℕ) (f : ℕ → ℤ) (y : ℤ) (ys : List ℤ) → set (tab i f ++ (y ∷ ys)) i (f i) ≡ tab (suc i) f ++ ys
@@ -30,18 +30,28 @@ long-next zero f t h = refl
 long-next (suc k) f [] h = let e : ⊥ = omega arith in absurd e
 long-next (suc k) f (x ∷ t) h = ap suc (long-next k (λ j. f (suc j)) t (omega arith))
 
-module _ (f : ℕ → ℤ) (t : List ℤ) where
-  -- one number more
-  pub begun-more : (i : ℕ) → i < length t → set (begun i f t) i (f i) ≡ begun (i + 1) f t
-  begun-more i h =
-      let e : suc i ≡ i + 1 = omega arith in
-      ap (λ (ys : List ℤ). set (tab i f ++ ys) i (f i)) (drop-cons t i (pos 0) h) ∙ set-next i f (at t i) (drop (suc i) t)
-      ∙ (λ j. tab (e j) f ++ drop (e j) t)
+-- f's numbers are stored one after the other: the first k are
+pub record Begun (f : ℕ → ℤ) (t : List ℤ) (k : ℕ) (u : List ℤ) : Type 0 where
+  pub is : u ≡ begun k f t
+
+module _ {f : ℕ → ℤ} {t : List ℤ} where
+  pub begun-none : Begun f t 0 t
+  begun-none = record { is = refl }
+
+  pub begun-more : {k : ℕ} {u : List ℤ} {v : ℤ} → Begun f t k u → k < length t → v ≡ f k → Begun f t (k + 1) (set u k v)
+  begun-more {k} h l e =
+      let z : suc k ≡ k + 1 = omega arith in record {
+        is = (λ j. set (h .is j) k (e j)) ∙ ap (λ (ys : List ℤ). set (tab k f ++ ys) k (f k)) (drop-cons t k (pos 0) l)
+            ∙ set-next k f (at t k) (drop (suc k) t) ∙ (λ j. tab (z j) f ++ drop (z j) t);
+      }
 
   -- the number that is next still waits
-  pub begun-waits : (i : ℕ) → at (begun i f t) i ≡ at t i
-  begun-waits i = let e : i + 0 ≡ i = omega arith in at-next i f (drop i t) ∙ getD-drop i t 0 (pos 0) ∙ ap (at t) e
+  pub begun-next : {k : ℕ} {u : List ℤ} → Begun f t k u → at u k ≡ at t k
+  begun-next {k} h =
+      let z : k + 0 ≡ k = omega arith in
+      ap (λ (l : List ℤ). at l k) (h .is) ∙ at-next k f (drop k t) ∙ getD-drop k t 0 (pos 0) ∙ ap (at t) z
 
+module _ (f : ℕ → ℤ) (t : List ℤ) where
   pub begun-long : (k : ℕ) → k ≤ length t → length (begun k f t) ≡ length t
   begun-long k h = long-next k f t h
 

@@ -1,18 +1,17 @@
 -- A whole transform on the array T is the specification's on the line that T holds.
 use mathlib.Core.Path.{_≡_, refl, sym, ap, _∙_, subst, subst⁻¹}
-use mathlib.Core.List.{List, [], _∷_, _++_, map}
+use mathlib.Core.List.{List, map}
 use Prim.Native.Nat.{ℕ, zero, suc, _+_, _*_, _^_, _≤_, _<_}
 use native.Mathlib.Omega.{arith}
 use lib.Dec.{T}
 use lib.IntN.{ℤ, pos, natAbs}
-use lib.ListN.{getD, length, drop, replicate, set, List·getD-append}
+use lib.ListN.{length, drop, replicate, set, List·getD-append}
 use lib.Seq.{getD-drop}
-use Rattle.whole.specs.Numbers.{_>>_, round2}
 use Rattle.whole.specs.Lists.{at, tab}
 use Rattle.whole.specs.Both.{Both}
-use Rattle.whole.proofs.Counts.{tab-ext, tab-length, map-at}
+use Rattle.whole.proofs.Counts.{tab-ext, tab-length}
 use Rattle.levels.specs.Sides.{Side, of4, of8, of16, of32, bits, len, side}
-use Rattle.av1.specs.Network.{Alg, steps, run, brev, dct}
+use Rattle.av1.specs.Network.{steps, run, brev, dct}
 use Rattle.av1.specs.Values.{exact}
 use Rattle.av1.specs.Passes.{av1-identity, av1-wht}
 use Rattle.levels.specs.declared.Kind.{Kind}
@@ -20,10 +19,13 @@ use Rattle.levels.specs.declared.Kind.the-variants.{Dct, Identity, Wht, Adst, F
 use Rattle.itx_1d.specs.Calls.{taken, put}
 use Rattle.itx_1d.specs.Inner.{most, Lined}
 use Rattle.itx_1d.specs.Passes.{wht, pass, av1-pass}
-use Rattle.itx_1d.proofs.PassLaws.{run-length, len-power, wht-av1}
+use Rattle.itx_1d.proofs.PassLaws.{identity-zero, identity-one, mapped-at, len-power, wht-av1}
+use Rattle.av1.proofs.Tail.{below, run-length, run-front}
+use Rattle.av1.proofs.Zeros.{at-tab, at-zeros, at-padded}
 use Rattle.itx_1d.proofs.Strides.{at-most-32}
 use Rattle.spec_engine.specs.Arrays.{points, Points, begun, Held, Begins, specified, Ready, Transforms}
-use Rattle.spec_engine.specs.Lines.{Small, Able}
+use Rattle.spec_engine.specs.Lines.{Able}
+use Rattle.av1.specs.Bounds.{Small}
 use Rattle.spec_engine.proofs.Fronts.{both-of, begun-all, begun-long, begun-at, power, points-small}
 use Rattle.spec_engine.proofs.Grows.{begin}
 
@@ -44,13 +46,12 @@ module _ (n : ℕ) (t : List ℤ) (is : Points n) (held : Held 524288 t) where
       subst (λ (k : ℕ). Able (steps k) (begun (2 ^ n) turned t)) is (begin (points n)
       (subst (λ (k : ℕ). Both Small (begun (2 ^ n) turned t) (replicate k 524288)) long (both-of 524288 (begun (2 ^ n) turned t) turned-small)))
 
--- what the lines leave after the first 2 ^ n numbers they do not touch
-beyond : {A : Type 0} (𝓐 : Alg A) (k : Side) (f : ℕ → A) (rest : List A)
-    → run 𝓐 (steps (bits k)) (tab (2 ^ bits k) f ++ rest) ≡ run 𝓐 (steps (bits k)) (tab (2 ^ bits k) f) ++ rest
-beyond 𝓐 of4 f rest = refl
-beyond 𝓐 of8 f rest = refl
-beyond 𝓐 of16 f rest = refl
-beyond 𝓐 of32 f rest = refl
+-- the lines touch the first 2 ^ n numbers alone
+own-places : (k : Side) → T (below (2 ^ bits k) (steps (bits k)))
+own-places of4 = tt
+own-places of8 = tt
+own-places of16 = tt
+own-places of32 = tt
 
 module _ (k : Side) (t : List ℤ) where
   abbrev from : ℕ → ℤ
@@ -60,7 +61,7 @@ module _ (k : Side) (t : List ℤ) where
   begins-of =
       let n = 2 ^ bits k in let front = run exact (steps (bits k)) (tab n from) in record {
         same = λ i l.
-            ap (λ (u : List ℤ). at u i) (beyond exact k from (drop n t))
+            ap (λ (u : List ℤ). at u i) (run-front exact (steps (bits k)) n (tab n from) (drop n t) (tab-length n from) (own-places k))
             ∙ List·getD-append front (drop n t) (pos 0) i (omega (arith, l, run-length exact (steps (bits k)) (tab n from), tab-length n from));
       }
 
@@ -70,46 +71,24 @@ begins n t is =
 
 -- ---- T is loaded with a line, and has zeros after it
 
-padded : (xs rest : List ℤ) → ((j : ℕ) → at rest j ≡ pos 0) → (i : ℕ) → at (xs ++ rest) i ≡ at xs i
-padded [] rest z i = z i
-padded (x ∷ xs) rest z zero = refl
-padded (x ∷ xs) rest z (suc i) = padded xs rest z i
-
-zeros : (n i : ℕ) → at (replicate n (pos 0)) i ≡ pos 0
-zeros zero i = refl
-zeros (suc n) zero = refl
-zeros (suc n) (suc i) = zeros n i
-
 module _ (n : ℕ) (f : ℕ → ℤ) where
   abbrev loaded : List ℤ
   loaded = begun n f (replicate 32 (pos 0))
 
   -- it is read as the line alone
   loaded-at : (i : ℕ) → at loaded i ≡ at (tab n f) i
-  loaded-at i = padded (tab n f) (drop n (replicate 32 (pos 0))) (λ j. getD-drop n (replicate 32 (pos 0)) j (pos 0) ∙ zeros 32 (n + j)) i
+  loaded-at i = at-padded (tab n f) (drop n (replicate 32 (pos 0))) (λ j. getD-drop n (replicate 32 (pos 0)) j (pos 0) ∙ at-zeros 32 (n + j)) i
 
   pub loaded-held : (m : ℕ) → n ≤ 32 → ((i : ℕ) → i < n → natAbs (f i) ≤ m) → Held m loaded
   loaded-held m few small = record {
     long = begun-long f (replicate 32 (pos 0)) n few;
-    small = λ i. subst (λ (z : ℤ). natAbs z ≤ m) (sym (loaded-at i)) (in-line n f small i);
+    small = λ i. subst (λ (z : ℤ). natAbs z ≤ m) (sym (loaded-at i)) (at-tab (λ z. natAbs z ≤ m) n f (omega arith) small i);
   }
-    where
-      in-line : (n : ℕ) (f : ℕ → ℤ) → ((i : ℕ) → i < n → natAbs (f i) ≤ m) → (i : ℕ) → natAbs (at (tab n f) i) ≤ m
-      in-line zero f h i = omega arith
-      in-line (suc n) f h zero = h 0 (omega arith)
-      in-line (suc n) f h (suc i) = in-line n (λ j. f (suc j)) (λ j l. h (suc j) (omega arith)) i
 
 -- ---- each transform, as a pass on the line
 
-identity-zero : (k : Side) → av1-identity k (pos 0) ≡ pos 0
-unfolding Rattle.av1.specs.Passes.av1-identity Rattle.whole.specs.Numbers.round2 Rattle.whole.specs.Numbers._>>_
-identity-zero of4 = refl
-identity-zero of8 = refl
-identity-zero of16 = refl
-identity-zero of32 = refl
-
 identity-at : (k : Side) (xs : List ℤ) (i : ℕ) → at (map (av1-identity k) xs) i ≡ av1-identity k (at xs i)
-identity-at k xs i = ap (getD (map (av1-identity k) xs) i) (sym (identity-zero k)) ∙ map-at (av1-identity k) xs i (pos 0)
+identity-at k xs i = mapped-at (av1-identity k) (sym (identity-one k (pos 0)) ∙ identity-zero k) xs i
 
 pub dct-passes : (n : ℕ) (t : List ℤ) {u : List ℤ} → Points n → Begins (2 ^ n) (dct exact n t) u → Begins (2 ^ n) (av1-pass Dct (points n) t) u
 dct-passes n t {u} is b = subst (λ (j : ℕ). Begins (2 ^ n) (dct exact j t) u) (sym is) b

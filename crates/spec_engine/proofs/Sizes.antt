@@ -16,10 +16,10 @@ use Rattle.levels.specs.declared.Kind.{Kind}
 use Rattle.levels.specs.declared.Kind.the-variants.{Dct, Identity, Wht, Adst, FlipAdst}
 use Rattle.itx_1d.specs.Passes.{pass, av1-pass}
 use Rattle.itx_1d.proofs.PassLaws.{pass-av1, pass-small}
-use Rattle.spec_engine.specs.Growth.{growth, all-below}
-use Rattle.spec_engine.specs.Lines.{Small}
+use Rattle.spec_engine.specs.Growth.{all-below}
+use Rattle.av1.specs.Bounds.{Small, growth}
+use Rattle.av1.proofs.Bounds.{grows}
 use Rattle.spec_engine.specs.Arrays.{specified}
-use Rattle.spec_engine.proofs.Grows.{grows}
 use Rattle.spec_engine.proofs.Cosines.{small-at}
 
 -- the bounds through the lines, from numbers up to k

@@ -11,9 +11,11 @@ use lib.Seq.{drop-cons}
 use mir.Facts.{and-yes}
 use Rattle.av1.specs.Network.{Step, step, run}
 use Rattle.av1.specs.Values.{exact}
+use Rattle.av1.proofs.Tail.{run-append}
 use Rattle.spec_engine.specs.Growth.{Workable}
 use Rattle.spec_engine.specs.Lines.{step-of, line, angled, Able, Runs, part, laid, sound, all-sound, Walks}
-use Rattle.spec_engine.proofs.Grows.{able-next, able-step, able-front, able-rest, run-append}
+use Rattle.av1.proofs.Bounds.{grows, able-next, able-first, able-after}
+use Rattle.spec_engine.proofs.Grows.{able-step}
 
 row-more : (rs : List (List ℕ)) (i : ℕ) → i < length rs → drop i rs ≡ getD rs i [] ∷ drop (i + 1) rs
 row-more rs i h = let one : suc i ≡ i + 1 = omega arith in drop-cons rs i [] h ∙ (λ k. getD rs i [] ∷ drop (one k) rs)
@@ -57,7 +59,7 @@ module _ {turns : Bool} {rs : List (List ℕ)} {t₀ t : List ℤ} {i : ℕ} (co
     pub further : {u : List ℤ} → u ≡ step exact (step-of turns (getD row 0 0) (getD row 1 0) (getD row 2 0) (eqb (getD row 3 0) 1)) t
         → Come turns rs t₀ u (i + 1)
     further e = record {
-      left = record { able = subst⁻¹ (Able rest) e (able-next (opened .able)); angles = turned .1 };
+      left = record { able = subst⁻¹ (Able rest) e (able-next (opened .able) grows); angles = turned .1 };
       same = ap (run exact rest) e ∙ ap (λ (l : List (List ℕ)). run exact (line turns l) t) (sym (row-more rs i more)) ∙ come .same;
       few = omega arith;
     }
@@ -118,14 +120,15 @@ module _ {n : ℕ} {rows ls : List (List ℕ)} {t₀ t : List ℤ} {l from : ℕ
 
       pub on : {u : List ℤ} → u ≡ run exact (cond due this []) t → Walk n rows ls t₀ u (l + 1) end
       on is = record {
-        able = subst⁻¹ (Able after) is (able-rest (cond due this []) after here);
-        same = ap (run exact after) is ∙ sym (run-append (cond due this []) after t) ∙ ap (λ (ss : List Step). run exact ss t) (sym parted) ∙ w .same;
+        able = subst⁻¹ (Able after) is (able-after grows (cond due this []) after here);
+        same = ap (run exact after) is ∙ sym (run-append exact (cond due this []) after t)
+            ∙ ap (λ (ss : List Step). run exact ss t) (sym parted) ∙ w .same;
         checked = checks .1;
         short = omega arith;
       }
 
     pub runs : leb (getD head 0 0) n ≡ true → Runs (eqb (getD head 1 0) 1) (part rows from end) t
-    runs e = record { able = able-front this after (here e); angles = rows-sound .1 }
+    runs e = record { able = able-first this after (here e); angles = rows-sound .1 }
 
   pub finished : length ls ≤ l → t ≡ run exact (laid rows n ls 0) t₀
   finished h = ap (λ (k : List (List ℕ)). run exact (laid rows n k from) t) (sym (all-done ls l h)) ∙ w .same

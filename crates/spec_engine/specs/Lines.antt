@@ -1,13 +1,13 @@
 -- The table of section 7.13.2.3 as the code runs it.
-use mathlib.Core.Bool.{Bool, true, cond, _&&_}
+use mathlib.Core.Bool.{Bool, true, false, cond, _&&_}
 use mathlib.Core.List.{List, [], _∷_, _++_}
-use Prim.Native.Nat.{ℕ, _+_, _-_, _≤_}
+use Prim.Native.Nat.{ℕ, _+_, _-_}
 use lib.Dec.{T, eqb, leb}
-use lib.IntN.{ℤ, natAbs}
+use lib.IntN.{ℤ}
 use lib.ListN.{length, getD, take, drop}
-use Rattle.whole.specs.Both.{Both}
 use Rattle.av1.specs.Network.{Step, turn, mix}
-use Rattle.spec_engine.specs.Growth.{fitting}
+use Rattle.av1.specs.Bounds.{growth, AbleBy}
+use Rattle.spec_engine.specs.Growth.{fits}
 
 abbrev pub step-of : Bool → ℕ → ℕ → ℕ → Bool → Step
 step-of turns a b angle flip = cond turns (turn a b angle flip) (mix a b flip)
@@ -22,14 +22,9 @@ abbrev pub angled : List (List ℕ) → Bool
 angled [] = true
 angled (r ∷ rs) = leb (getD r 2 0) 128 && angled rs
 
-abbrev pub Small : ℤ → ℕ → Type 0
-Small z n = natAbs z ≤ n
-
 -- the work array is such that the steps can be run
-pub record Able (ss : List Step) (t : List ℤ) : Type 0 where
-  pub β : List ℕ
-  pub inside : Both Small t β
-  pub ok : T (fitting ss β)
+abbrev pub Able : List Step → List ℤ → Type 0
+Able = AbleBy growth fits false
 
 pub record Runs (turns : Bool) (rs : List (List ℕ)) (t : List ℤ) : Type 0 where
   pub able : Able (line turns rs) t

@@ -10,7 +10,7 @@ w0 : (s : tie.Start) → Walked (s .args .tx64) (s .args .min) (s .args .max) (s
 w0 s = begin (s .fits .min) (s .fits .max) (s .pre)
 
 w1 : (c : tie.After-dct8) → Next (w0 (c .before .before)) 13 (c .dct8 .last .0) (c .dct8 .result)
-w1 c = let e = c .dct8 .ensures in joined (w0 (c .before .before)) 13 refl (record { elements = e .elements; mark = e .mark })
+w1 c = joined (w0 (c .before .before)) 13 refl (c .dct8 .ensures)
 
 w2 : (c : tie.After-first) → Turned (w1 (c .before .before .before .before)) 17 (c .first .last .0)
 w2 c = turned (w1 (c .before .before .before .before)) 17 refl tt (c .first .ensures)

@@ -10,7 +10,7 @@ w0 : (s : tie.Start) → Walked (s .args .tx64) (s .args .min) (s .args .max) (s
 w0 s = begin (s .fits .min) (s .fits .max) (s .pre)
 
 w1 : (c : tie.After-dct16) → Next (w0 (c .before .before)) 37 (c .dct16 .last .0) (c .dct16 .result)
-w1 c = let e = c .dct16 .ensures in joined (w0 (c .before .before)) 37 refl (record { elements = e .elements; mark = e .mark })
+w1 c = joined (w0 (c .before .before)) 37 refl (c .dct16 .ensures)
 
 w2 : (c : tie.After-first) → Turned (w1 (c .before .before .before .before)) 41 (c .first .last .0)
 w2 c = turned (w1 (c .before .before .before .before)) 41 refl tt (c .first .ensures)

@@ -10,7 +10,7 @@ w0 : (s : tie.Start) → Walked (s .args .tx64) (s .args .min) (s .args .max) (s
 w0 s = begin (s .fits .min) (s .fits .max) (s .pre)
 
 w1 : (c : tie.After-dct4) → Next (w0 (c .before .before)) 4 (c .dct4 .last .0) (c .dct4 .result)
-w1 c = let e = c .dct4 .ensures in joined (w0 (c .before .before)) 4 refl (record { elements = e .elements; mark = e .mark })
+w1 c = joined (w0 (c .before .before)) 4 refl (c .dct4 .ensures)
 
 w2 : (c : tie.After-first) → Turned (w1 (c .before .before .before .before)) 6 (c .first .last .0)
 w2 c = turned (w1 (c .before .before .before .before)) 6 refl tt (c .first .ensures)

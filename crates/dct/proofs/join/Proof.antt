@@ -25,7 +25,7 @@ module _ (s : tie.Start) where
   y = at (s .args .t .now) (s .args .b)
 
   mid : Mid x y
-  mid = record { x-mid = s .pre .x-mid; y-mid = s .pre .y-mid }
+  mid = record { x-mid = s .pre .x-small; y-mid = s .pre .y-small }
 
 abbrev start : tie.After-outside2 → tie.Start
 start c = c .before .before .before .before
@@ -69,6 +69,4 @@ join-spec =
     (λ c. fits (mid (c .before .before)) sum tt) (λ c. fits (mid (c .before .before)) diff tt)
     (λ c κs. search needs) (λ c κs. search needs) (λ c κs. search needs) (λ c κs. search needs) (λ c. search needs)
     (λ c. search needs) (λ c. search needs) (λ c. search needs) (λ c. search needs) (λ c. search needs)
-    (λ c. search needs) (λ c. search needs)
-    returns
-    returns-2)
+    (λ c. search needs) (λ c. search needs) returns returns-2)

@@ -7,7 +7,9 @@ use Rattle.dct.proofs.lone.Statement.{statement}
 use Rattle.dct.proofs.lone.Tie as tie
 
 held : (s : tie.Start) → Held (at (s .args .t .now) (s .args .a)) (at (s .args .t .now) (s .args .b)) (s .args .cos) (s .args .sin)
-held s = let q = s .pre .turnable in record { x-small = q .x-small; y-small = q .y-small; cos-small = q .cos-small; sin-small = q .sin-small }
+held s =
+    let q = s .pre .turnable in
+    record { x-small = q .two .x-small; y-small = q .two .y-small; cos-small = q .cos-small; sin-small = q .sin-small }
 
 returns : tie.Need-returns
 returns c =
@@ -31,5 +33,4 @@ lone-spec =
     (λ c. search needs) (λ c. search needs) (λ c κs. search needs) (λ c κs. search needs) (λ c κs. search needs)
     (λ c. search needs) (λ c. search needs) (λ c. less-fits (held (c .before .before)))
     (λ c κs. let s = c .before .before in asks-less (held s) (s .pre .sin-less)) (λ c κs. search needs) (λ c κs. search needs)
-    returns
-    returns-2)
+    returns returns-2)

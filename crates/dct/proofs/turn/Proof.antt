@@ -7,7 +7,7 @@ use Rattle.dct.proofs.turn.Statement.{statement}
 use Rattle.dct.proofs.turn.Tie as tie
 
 held : (s : tie.Start) → Held (at (s .args .t .now) (s .args .a)) (at (s .args .t .now) (s .args .b)) (s .args .cos) (s .args .sin)
-held s = let q = s .pre in record { x-small = q .x-small; y-small = q .y-small; cos-small = q .cos-small; sin-small = q .sin-small }
+held s = let q = s .pre in record { x-small = q .two .x-small; y-small = q .two .y-small; cos-small = q .cos-small; sin-small = q .sin-small }
 
 returns : tie.Need-returns
 returns c =
@@ -20,5 +20,4 @@ pub turn-spec : {M : Type 1} → statement M
 turn-spec =
     tie.close (tie.spec (λ c. search needs) (λ c. search needs) (λ c. search needs) (λ c. search needs)
     (λ c. less-fits (held (c .before .before))) (λ c κs. asks-dot (held (c .before .before)))
-    (λ c κs. search needs) (λ c κs. search needs)
-    returns)
+    (λ c κs. search needs) (λ c κs. search needs) returns)

@@ -1,5 +1,4 @@
 -- `intops::outside` meets its contract.
-use mathlib.Core.Path.{_≡_}
 use mir.Syntax.{w32}
 use mir.ValLaws.{toZ-ofZ}
 use Rattle.whole.specs.Numbers.{outside}

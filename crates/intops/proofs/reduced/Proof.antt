@@ -1,13 +1,13 @@
 -- `intops::reduced` meets its contract.
 use mathlib.Core.Path.{_≡_, ap, _∙_, subst⁻¹}
 use mathlib.Core.List.{List, [], _∷_}
-use Prim.Native.Nat.{ℕ, _≤_}
+use Prim.Native.Nat.{_≤_}
 use lib.IntN.{ℤ, pos, natAbs, _-ℤ_, _*ℤ_}
 use mir.Syntax.{w32}
 use mir.ValLaws.{toZ-ofZ}
 use borrow.Author.Needs.{needs}
 use Rattle.whole.proofs.Machine.{E, var, lit, _⊝_, _⊛_, Within, need, reads}
-use Rattle.intops.specs.Asked.{carry, reduced}
+use Rattle.intops.specs.Asked.{carry}
 use Rattle.intops.proofs.Carries.{carry-small}
 use Rattle.intops.proofs.reduced.Statement.{statement}
 use Rattle.intops.proofs.reduced.Tie as tie
@@ -32,5 +32,4 @@ returns c = reads (ρ c) (4096 ∷ 1 ∷ []) (small c) (var 0 ⊝ taken) w32 tt 
 pub reduced-spec : {M : Type 1} → statement M
 reduced-spec =
     tie.close (tie.spec (λ c κs. search needs) (λ c. need (ρ c) (4096 ∷ 1 ∷ []) (small c) taken w32 tt)
-    (λ c. need (ρ c) (4096 ∷ 1 ∷ []) (small c) (var 0 ⊝ taken) w32 tt)
-    returns)
+    (λ c. need (ρ c) (4096 ∷ 1 ∷ []) (small c) (var 0 ⊝ taken) w32 tt) returns)

@@ -1,13 +1,10 @@
 -- `itx_1d::check` meets its contract.
-use mathlib.Core.Path.{_≡_, sym, _∙_}
-use Prim.Native.Nat.{_*_}
+use mathlib.Core.Path.{sym, _∙_}
 use native.Mathlib.Nat.{le-trans}
 use lib.Dec.{eqb}
 use mir.Syntax.{w32}
 use mir.ValLaws.{toZ-ofZ}
-use Rattle.whole.specs.Numbers.{outside}
-use Rattle.whole.specs.Lists.{at, first}
-use Rattle.itx_1d.specs.Inner.{after, element-check}
+use Rattle.whole.specs.Lists.{at}
 use Rattle.itx_1d.proofs.Checks.{placed}
 use Rattle.itx_1d.proofs.Strides.{not-0, in-reach}
 use Rattle.itx_1d.proofs.check.Statement.{statement}
@@ -21,11 +18,7 @@ check-elements-requires c κs =
           in-reach (s .args .c .now) (s .args .n) (s .args .stride) (u .1) j (le-trans h (s .pre .1));
     }
 
-returns : tie.Need-returns
-returns c =
-    let p = c .before in let s = p .before in let lo = toZ-ofZ w32 (s .args .min) (s .fits .min) in
-    let hi = toZ-ofZ w32 (s .args .max) (s .fits .max) in c .check-elements .ensures ∙ (λ k. after (p .check-place .ensures k)
-    (element-check (first (s .args .looked) (λ i. outside (at (s .args .c .now) (i * s .args .stride)) (lo k) (hi k)))))
-
 pub check-spec : {M : Type 1} → statement M
-check-spec = tie.close (tie.spec (λ c κs. not-0 (c .args .n) (c .pre .0)) check-elements-requires returns)
+check-spec = tie.close (tie.spec (λ c κs. not-0 (c .args .n) (c .pre .0)) check-elements-requires (λ c. let p = c .before in let s = p .before in
+    rw (toZ-ofZ w32 (s .args .min) (s .fits .min), toZ-ofZ w32 (s .args .max) (s .fits .max), p .check-place .ensures)
+    at (c .check-elements .ensures)))

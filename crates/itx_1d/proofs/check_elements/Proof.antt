@@ -1,6 +1,6 @@
 -- `itx_1d::check_elements` meets its contract.
 use mathlib.Core.Path.{_≡_, sym, ap, _∙_}
-use Prim.Native.Nat.{ℕ, _*_}
+use Prim.Native.Nat.{_*_}
 use mir.Syntax.{w32}
 use mir.ValLaws.{toZ-ofZ}
 use borrow.Author.Needs.{needs}
@@ -18,10 +18,8 @@ decided : (e : tie.After-first-outside) (p : Found) → let s = e .before .befor
     → element-check (found p) ≡ after (s .args .before)
     (element-check (first (s .args .n) (λ i. outside (at (s .args .c .now) (i * s .args .stride)) (s .args .min) (s .args .max))))
 decided e p h =
-    let s = e .before .before .before in let lo = toZ-ofZ w32 (s .args .min) (s .fits .min) in
-    let hi = toZ-ofZ w32 (s .args .max) (s .fits .max) in ap (λ (q : Found). element-check (found q)) (sym h)
-    ∙ ap element-check (e .first-outside .ensures
-    ∙ (λ k. first (s .args .n) (λ i. outside (at (s .args .c .now) (i * s .args .stride)) (lo k) (hi k))))
+    let s = e .before .before .before in ap (λ (q : Found). element-check (found q)) (sym h)
+    ∙ ap element-check (rw (toZ-ofZ w32 (s .args .min) (s .fits .min), toZ-ofZ w32 (s .args .max) (s .fits .max)) at (e .first-outside .ensures))
     ∙ went-on _ (e .before .enum-told .given .1)
 
 pub check-elements-spec : {M : Type 1} → statement M

@@ -1,6 +1,6 @@
 -- `itx_1d::first_outside` meets its contract.
 use mathlib.Core.Path.{_≡_, sym, _∙_}
-use mathlib.Core.Bool.{true, false}
+use mathlib.Core.Bool.{false}
 use Prim.Native.Nat.{ℕ, _≤_, _<_, _*_, _-_}
 use native.Mathlib.Omega.{arith}
 use lib.IntN.{ℤ}

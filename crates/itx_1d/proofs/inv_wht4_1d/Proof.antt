@@ -1,5 +1,5 @@
 -- `itx_1d::inv_wht4_1d` meets its contract.
-use mathlib.Core.Path.{_≡_, refl}
+use mathlib.Core.Path.{refl}
 use mathlib.Core.Bool.{false}
 use Prim.Native.Nat.{_*_}
 use native.Mathlib.Omega.{arith}

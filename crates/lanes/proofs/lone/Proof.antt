@@ -39,5 +39,4 @@ lone-spec =
     (λ c. search needs) (λ c κs. search needs) (λ c κs. search needs) (λ c κs. search needs) (λ c. search needs)
     (λ c. search needs) (λ c. less-fits (held (c .before .before)))
     (λ c κs. let s = c .before .before in asks-less (held s) (s .pre .sin-small)) (λ c κs. search needs) (λ c κs. search needs)
-    returns
-    returns-2)
+    returns returns-2)

@@ -42,5 +42,4 @@ mix-spec =
     (λ c. search needs) (λ c. search needs) (λ c. search needs)
     (λ c. fits (mid (c .before .before)) sum tt) (λ c. fits (mid (c .before .before)) diff tt)
     (λ c. search needs) (λ c. search needs) (λ c. search needs) (λ c. search needs) (λ c κs. search needs)
-    (λ c κs. search needs)
-    returns)
+    (λ c κs. search needs) returns)

@@ -11,18 +11,19 @@ use Rattle.av1.specs.Network.{Step, H, step}
 use Rattle.av1.specs.Values.{exact, hit}
 use Rattle.dct.specs.Stages.{joins}
 use Rattle.dct.proofs.Order.{or-no, or-more}
-use Rattle.dct.proofs.Tables.{joins-at, joins-end}
+use Rattle.dct.proofs.Tables.{join-at, joins-from, joins-at, joins-end}
 use Rattle.dct.proofs.Walk.{read-back}
 use Rattle.lanes.specs.Lanes.{lane, far}
-use Rattle.lanes.proofs.Fits.{able-now, paired}
+use Rattle.av1.proofs.Bounds.{two-told, able-now}
+use Rattle.lanes.proofs.Fits.{paired}
 use Rattle.lanes.proofs.Ahead.{Come, begin, able-here, further, ended}
 use Rattle.lanes.proofs.mixes.Statement.{statement}
 use Rattle.lanes.proofs.mixes.Tie as tie
 
 abbrev Inv-loop : tie.InvT-loop
 Inv-loop t₀ l ps min max far₀ i₀ t seen i =
-    Come false l (joins ps) t₀ (joins (drop i ps)) t
-    × (seen || far (toZ w32 min) (toZ w32 max) (joins (drop i ps)) (lane t l) ≡ far (toZ w32 min) (toZ w32 max) (joins ps) (lane t₀ l))
+    Come false l (joins ps) t₀ (joins-from ps i) t
+    × (seen || far (toZ w32 min) (toZ w32 max) (joins-from ps i) (lane t l) ≡ far (toZ w32 min) (toZ w32 max) (joins ps) (lane t₀ l))
     × (i ≤ length ps)
 
 abbrev μ-loop : tie.MeasureT-loop
@@ -35,29 +36,25 @@ module _ (c : tie.After-shared-slice-known3 Inv-loop μ-loop) where
   abbrev s : tie.Start Inv-loop μ-loop
   s = head .before .before
 
-  -- the step that the table has here, and the steps after it
-  abbrev this : Step
-  this = H (getD (s .args .pairs .now) (head .loop .i) 0) (getD (s .args .pairs .now) (head .loop .i + 1) 0)
+  abbrev ps : List ℕ
+  ps = s .args .pairs .now
 
-  abbrev rest : ℕ → List Step
-  rest i = joins (drop i (s .args .pairs .now))
-
-  parted : rest (head .loop .i) ≡ this ∷ rest (head .loop .i + 2)
-  parted = joins-at (s .args .pairs .now) (head .loop .i) (c .before .before .loop-test .taken)
+  parted : joins-from ps (head .loop .i) ≡ join-at ps (head .loop .i) ∷ joins-from ps (head .loop .i + 2)
+  parted = joins-at ps (head .loop .i) (c .before .before .loop-test .taken)
 
 mix-requires : tie.Need-mix-requires Inv-loop μ-loop
 mix-requires c κs =
     let e = c .before in let q = s e in let h = head e .loop in let able = able-here (h .inv .0) (parted e) in
-    paired (h .t) (q .args .l) (h .inv .0 .long ∙ q .pre .long) (q .pre .l-in) _ _ 1073741823 (able .β) (able .inside) (able-now able)
+    paired (h .t) (q .args .l) (h .inv .0 .long ∙ q .pre .long) (q .pre .l-in) _ _ 1073741823 (two-told (able .inside) _ _ 1073741823 (able-now able))
 
 loop-again : tie.Need-loop-again Inv-loop μ-loop
 loop-again c =
     let e = c .before .before in let q = s e in let h = head e .loop in let L = lane (h .t) (q .args .l) in
-    let lo = toZ w32 (ofZ w32 (q .args .min)) in let hi = toZ w32 (ofZ w32 (q .args .max)) in let on = rest e (h .i + 2) in
+    let lo = toZ w32 (ofZ w32 (q .args .min)) in let hi = toZ w32 (ofZ w32 (q .args .max)) in let on = joins-from (ps e) (h .i + 2) in
     let done = c .mix .ensures in (
       further (h .inv .0) (parted e) (done .elements),
       (λ k. (h .far || done .seen k) || far lo hi on (done .elements .own k))
-          ∙ or-more (h .far) (hit lo hi (this e) L) (far lo hi on (step exact (this e) L))
+          ∙ or-more (h .far) (hit lo hi (join-at (ps e) (h .i)) L) (far lo hi on (step exact (join-at (ps e) (h .i)) L))
           ∙ (λ k. h .far || far lo hi (sym (parted e) k) L) ∙ h .inv .1,
       omega arith,
     )
@@ -77,5 +74,4 @@ pub mixes-spec : {M : Type 1} → statement M
 mixes-spec =
     tie.close (tie.spec Inv-loop μ-loop (λ c. (begin (c .before .pre .able), refl, omega arith))
     (λ c. omega arith) (λ c. omega arith) (λ c. omega arith) (λ c. omega arith) (λ c. omega arith) (λ c. omega arith)
-    mix-requires (λ c. omega arith) (λ c. omega arith) loop-again
-    returns)
+    mix-requires (λ c. omega arith) (λ c. omega arith) loop-again returns)

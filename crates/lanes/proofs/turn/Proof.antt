@@ -3,14 +3,14 @@ use mathlib.Core.Path.{subst⁻¹}
 use Prim.Native.Nat.{ℕ, _+_, _*_}
 use borrow.Author.Needs.{needs}
 use lib.IntN.{ℤ}
+use mir.Syntax.{w32}
+use mir.ValLaws.{toZ-ofZ}
 use Rattle.whole.specs.Lists.{at}
-use Rattle.whole.proofs.Held.{to2, from2}
+use Rattle.whole.proofs.Held.{to2}
 use Rattle.whole.proofs.Machine.{var}
 use Rattle.intops.specs.Asked.{Slight}
-use Rattle.av1.specs.Network.{B, step}
-use Rattle.av1.specs.Values.{exact}
 use Rattle.dct.proofs.Results.{Held, is, small, less-sin, less-fits, dot-x, dot-y}
-use Rattle.lanes.specs.Lanes.{OnLane, Lonely}
+use Rattle.lanes.specs.Lanes.{Lonely}
 use Rattle.lanes.proofs.Lanes.{turned-on}
 use Rattle.lanes.proofs.turn.Statement.{statement}
 use Rattle.lanes.proofs.turn.Tie as tie
@@ -28,12 +28,6 @@ lone-requires : tie.Need-lone-requires
 lone-requires c κs =
     let s = c .before .before in
     to2 (Lonely (s .args .t .now) (s .args .l) (s .args .a) (s .args .b)) (s .fits .cos) (s .fits .sin) (s .pre .alone (c .before .if1 .taken))
-
-returns : tie.Need-returns
-returns c =
-    let s = c .before .before .before in
-    from2 (λ p q. OnLane (s .args .l) (step exact (B (s .args .a) (s .args .b) p q (s .args .flip))) (s .args .t .now) (c .lone .last .0))
-    (s .fits .cos) (s .fits .sin) (c .lone .ensures)
 
 dot32-requires : tie.Need-dot32-requires
 dot32-requires c κs =
@@ -53,7 +47,8 @@ returns-2 c =
 
 pub turn-spec : {M : Type 1} → statement M
 turn-spec =
-    tie.close (tie.spec lone-requires returns
+    tie.close (tie.spec lone-requires (λ c. let s = c .before .before .before in
+    rw (toZ-ofZ w32 (s .args .cos) (s .fits .cos), toZ-ofZ w32 (s .args .sin) (s .fits .sin)) at (c .lone .ensures))
     (λ c. search needs) (λ c. search needs) (λ c. search needs) (λ c. search needs) (λ c. search needs)
     (λ c. search needs) (λ c. search needs) (λ c. search needs)
     (λ c. less-fits (held (c .before .before .before))) dot32-requires (λ c κs. search needs) (λ c κs. search needs)

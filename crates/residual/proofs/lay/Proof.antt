@@ -1,6 +1,6 @@
 -- `residual::lay` meets its contract: a row of the block more with each turn.
 use mathlib.Core.Path.{_≡_}
-use Prim.Native.Nat.{suc, _≤_, _<_, _+_, _*_, _-_}
+use Prim.Native.Nat.{suc, _≤_, _+_, _*_, _-_}
 use native.Mathlib.Nat.{le-trans, mul-le-mul}
 use native.Mathlib.Omega.{arith}
 use lib.Dec.{lit≤}

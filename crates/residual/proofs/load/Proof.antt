@@ -1,13 +1,10 @@
 -- `residual::load` meets its contract: a row of the block more with each turn.
-use mathlib.Core.Path.{_≡_, ap}
-use mathlib.Core.List.{List}
-use Prim.Native.Nat.{ℕ, _≤_, _<_, _*_, _-_, _/_}
+use mathlib.Core.Path.{_≡_}
+use Prim.Native.Nat.{_≤_, _-_}
 use native.Mathlib.Nat.{le-trans}
 use native.Mathlib.Omega.{arith}
 use lib.Dec.{lit≤}
-use lib.ListN.{getD}
-use Rattle.itx_1d.specs.Inner.{source}
-use Rattle.itx_1d.proofs.Strides.{source-at, not-0}
+use Rattle.itx_1d.proofs.Strides.{not-0}
 use Rattle.residual.specs.Inner.{loaded, Laid}
 use Rattle.residual.proofs.Laying.{Placed, placed, laid-none, laid-more}
 use Rattle.residual.proofs.Places.{h-small}
@@ -42,8 +39,7 @@ load-spec =
       some-rows = s i .pre .some-rows;
       room = omega (arith, place i .small, few i);
       long = i .before .loop .inv .0 .long;
-    })
-    (λ c. omega arith) (λ c. omega arith) (λ c.
+    }) (λ c. omega arith) (λ c. omega arith) (λ c.
     let i = c .before .before .before in (
       laid-more (s i .pre .sized .width) (i .loop-test .taken) (few i) (i .before .loop .inv .0) (rw (place i .is) at (c .load-column .ensures)),
       omega arith,

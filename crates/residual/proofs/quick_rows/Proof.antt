@@ -1,13 +1,11 @@
 -- `residual::quick_rows` meets its contract.
-use mathlib.Core.Path.{_≡_, _∙_, subst}
-use mathlib.Core.Bool.{Bool, false}
-use mathlib.Core.List.{List}
-use Prim.Native.Nat.{ℕ, _+_, _*_, _≤_, _<_}
+use mathlib.Core.Path.{_∙_, subst}
+use mathlib.Core.Bool.{false}
+use Prim.Native.Nat.{ℕ, _≤_, _<_}
 use native.Mathlib.Nat.{le-trans}
 use native.Mathlib.Omega.{arith}
-use lib.IntN.{ℤ, natAbs}
+use lib.IntN.{natAbs}
 use borrow.Author.Needs.{needs}
-use Rattle.whole.specs.Lists.{at}
 use Rattle.whole.proofs.Held.{to2}
 use Rattle.levels.specs.Sides.{len, side}
 use Rattle.lanes.specs.Stages.{Ready}

@@ -1,5 +1,5 @@
 -- `residual::resolve` meets its contract.
-use mathlib.Core.Path.{_≡_, refl, _∙_}
+use mathlib.Core.Path.{refl, _∙_}
 use Prim.Native.Nat.{_*_, _≤_}
 use native.Mathlib.Nat.{le-trans}
 use native.Mathlib.Omega.{arith}
@@ -9,7 +9,7 @@ use Rattle.whole.specs.Numbers.{low, high}
 use Rattle.whole.specs.Lists.{at}
 use Rattle.itx_1d.specs.Inner.{Limited}
 use Rattle.bitdepth.specs.Depths.{row-range, column-range}
-use Rattle.residual.specs.Inner.{Filled, rounding, RowsBy, ColumnsBy}
+use Rattle.residual.specs.Inner.{Filled, rounding, RowsBy}
 use Rattle.bitdepth.proofs.Ends.{row-reach, column-reach, lo-is, hi-is, as-held, m-is}
 use Rattle.residual.proofs.Ends.{limited}
 use Rattle.residual.proofs.Places.{area, w-small, rows-fit}

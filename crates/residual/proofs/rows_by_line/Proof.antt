@@ -1,6 +1,6 @@
 -- `residual::rows_by_line` meets its contract.
 use mathlib.Core.Path.{_≡_, refl, sym, _∙_}
-use Prim.Native.Nat.{suc, _+_, _≤_, _<_, _*_, _-_}
+use Prim.Native.Nat.{suc, _+_, _≤_, _*_, _-_}
 use native.Mathlib.Nat.{le-refl, le-trans}
 use native.Mathlib.Omega.{arith}
 use lib.IntN.{natAbs}
@@ -59,7 +59,6 @@ rows-by-line-spec =
     let d = c .before in let l = d .before .before .before in (
       rows-are-more (start l .pre .0 .block .sized .width) (room l) (turn l .before .loop .inv .0) (l .load-row .ensures) (d .row-by .ensures),
       omega arith,
-    ))
-    (λ c. c .before .loop .inv .0 .elements .long ∙ sym (c .before .before .pre .0 .block .long)) (λ c.
+    )) (λ c. c .before .loop .inv .0 .elements .long ∙ sym (c .before .before .pre .0 .block .long)) (λ c.
     let s = c .before .before in let all : c .before .loop .y ≡ s .args .r = omega arith in
     rw (all, toZ-ofZ w32 (s .args .min) (s .fits .min)) at (c .before .loop .inv .0)))

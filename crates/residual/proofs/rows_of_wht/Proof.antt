@@ -1,12 +1,9 @@
 -- `residual::rows_of_wht` meets its contract.
 use mathlib.Core.Path.{_≡_, refl, sym, _∙_}
-use mathlib.Core.Bool.{false}
-use mathlib.Core.List.{List}
-use Prim.Native.Nat.{ℕ, suc, _+_, _≤_, _<_, _*_, _-_}
+use Prim.Native.Nat.{_≤_, _-_}
 use native.Mathlib.Nat.{le-refl, le-trans}
 use native.Mathlib.Omega.{arith}
 use lib.Dec.{lit≤}
-use lib.IntN.{ℤ, natAbs}
 use Rattle.whole.specs.Lists.{at}
 use Rattle.residual.specs.Inner.{wht-plan, row-made, HoldsIn}
 use Rattle.residual.proofs.Fills.{rows-none, rows-more}

@@ -87,5 +87,4 @@ shortcut-spec =
     tie.close (tie.spec enter-requires (λ c. need (c .enter .result ∷ []) (524288 ∷ []) (entered-small c, tt) product w32 tt)
     (λ c. need (c .enter .result ∷ []) (524288 ∷ []) (entered-small c, tt) (product ⊕ lit (pos 128)) w32 tt)
     rounded-requires (λ c. need (c .rounded .result ∷ []) (524288 ∷ []) (small c, tt) product w32 tt)
-    (λ c. need (c .rounded .result ∷ []) (524288 ∷ []) (small c, tt) (product ⊕ lit (pos 2176)) w32 tt)
-    returns)
+    (λ c. need (c .rounded .result ∷ []) (524288 ∷ []) (small c, tt) (product ⊕ lit (pos 2176)) w32 tt) returns)

@@ -45,8 +45,7 @@ returns c =
 
 pub brev-spec : {M : Type 1} → statement M
 brev-spec =
-    tie.close (tie.spec
-    Inv-loop μ-loop (λ c.
+    tie.close (tie.spec Inv-loop μ-loop (λ c.
     let n = c .args .n in let z : n - 0 ≡ n = omega arith in
     let first : 0 * 2 ^ (n - 0) + brev (n - 0) (c .args .x) ≡ brev (n - 0) (c .args .x) = omega arith in
     (first ∙ ap (λ (k : ℕ). brev k (c .args .x)) z, lit≤ tt, omega arith))

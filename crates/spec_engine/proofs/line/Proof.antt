@@ -23,8 +23,7 @@ module _ (c : tie.In-loop Inv-loop μ-loop) where
 
 pub line-spec : {M : Type 1} → statement M
 line-spec =
-    tie.close (tie.spec
-    Inv-loop μ-loop (λ c. begun (c .pre)) (λ c. search needs) (λ c. omega arith) (λ c. search needs)
+    tie.close (tie.spec Inv-loop μ-loop (λ c. begun (c .pre)) (λ c. search needs) (λ c. omega arith) (λ c. search needs)
     (λ c. omega (arith, this (c .before) .0 .a-in)) (λ c. search needs) (λ c. omega arith) (λ c. search needs)
     (λ c. omega (arith, this (c .before .before) .0 .b-in)) (λ c. search needs) (λ c. omega arith) (λ c. search needs)
     (λ c. omega (arith, this (c .before .before .before) .1)) (λ c. search needs) (λ c. omega arith) (λ c. search needs)

@@ -2,7 +2,7 @@
 use mathlib.Core.Path.{sym, ap}
 use Prim.Native.Nat.{ℕ}
 use Rattle.levels.specs.Sides.{bits, side}
-use Rattle.itx_1d.proofs.Through.{sided-32}
+use Rattle.av1.proofs.Sides.{sided-32}
 use Rattle.spec_engine.proofs.log2.Statement.{statement}
 use Rattle.spec_engine.proofs.log2.Tie as tie
 

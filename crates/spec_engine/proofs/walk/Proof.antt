@@ -25,8 +25,7 @@ loop-again c =
 
 pub walk-spec : {M : Type 1} → statement M
 walk-spec =
-    tie.close (tie.spec
-    Inv-loop μ-loop (λ c. start (c .pre)) (λ c. search needs) (λ c. omega arith) (λ c. search needs)
+    tie.close (tie.spec Inv-loop μ-loop (λ c. start (c .pre)) (λ c. search needs) (λ c. omega arith) (λ c. search needs)
     (λ c. omega (arith, least-small (c .before .before .loop .inv) (c .before .loop-test .taken))) (λ c. search needs)
     (λ c. omega arith) (λ c. search needs) (λ c. search needs) (λ c. omega arith) (λ c. search needs)
     (λ c. let i = c .before .before .before in omega (arith, rows-there (i .before .loop .inv) (i .loop-test .taken)))
