@@ -1,11 +1,11 @@
 -- The laws that make a form's writer and reader inverse, for each way to make a form.
 use mathlib.Core.Path.{_≡_, refl, sym, ap, _∙_}
-use mathlib.Core.Bool.{Bool, true}
+use mathlib.Core.Bool.{Bool, true, cond}
 use mathlib.Core.List.{List, [], _∷_, _++_, append-assoc}
 use Prim.Native.Nat.{ℕ, zero, suc, _<_}
 use lib.ListN.{length}
-use Rattle.blockfile.specs.Read.{got, and-then, test}
-use Rattle.blockfile.specs.Form.{Form, number, tested, only-if, named, called, second, written, followed, write-each, read-each, times, Each}
+use Rattle.blockfile.specs.Read.{Read, got, refused, and-then}
+use Rattle.blockfile.specs.Form.{Form, number, only-if, called, followed, write-each, read-each, times, Each}
 use Rattle.blockfile.proofs.Readings.{got-value, got-rest, never, Stays, steps, and-then-stays, passed, test-stays}
 use Rattle.blockfile.proofs.Numbers.{number-back, number-only, number-stays}
 
@@ -23,47 +23,56 @@ module _ {A : Type 0} {c : Form A} {W : A → Type 0} (l : Lawful c W) where
   whole bs more a rest e =
       let is = l .only bs a rest e in rw (is .0, append-assoc (c .write a) rest more) (l .back a (rest ++ more) (is .1))
 
+-- what follows the first step of reading, for each way to make a form
+abbrev pub tested : {A : Type 0} → (A → Bool) → ℕ → A → List ℕ → Read A
+tested ok k a rest = cond (ok a) (got a rest) (refused k)
+
+abbrev pub named : {A B : Type 0} → (A → B) → A → List ℕ → Read B
+named to a rest = got (to a) rest
+
+abbrev pub second : {A B : Type 0} → (A → Form B) → A → List ℕ → Read (A × B)
+second d a bs = and-then (d a .read bs) (λ b rest. got (a, b) rest)
+
 pub number-lawful : Lawful number (λ n. n < 4294967296)
-unfolding number
 number-lawful = record { back = number-back; only = number-only; stays = number-stays }
 
 pub only-if-lawful : {A : Type 0} {c : Form A} {W : A → Type 0} (ok : A → Bool) (k : ℕ) → Lawful c W
     → Lawful (only-if c ok k) (λ a. W a × (ok a ≡ true))
-unfolding only-if and-then tested test
+unfolding only-if and-then
 only-if-lawful {A} {c} {W} ok k l = record {
   back = λ a rest h. rw (l .back a rest (h .0), h .1);
   only = only;
-  stays = λ bs more. and-then-stays (c .read bs) (c .read (bs ++ more)) more (tested c ok k) (whole l bs more) (l .stays bs more)
+  stays = λ bs more. and-then-stays (c .read bs) (c .read (bs ++ more)) more (tested ok k) (whole l bs more) (l .stays bs more)
       (λ a rest. test-stays (ok a) k a rest (rest ++ more));
 }
   where
-    only : (bs : List ℕ) (a : A) (rest : List ℕ) → and-then (c .read bs) (tested c ok k) ≡ got a rest
+    only : (bs : List ℕ) (a : A) (rest : List ℕ) → and-then (c .read bs) (tested ok k) ≡ got a rest
         → (bs ≡ c .write a ++ rest) × (W a × (ok a ≡ true))
     only bs a rest e =
-        let s = steps (c .read bs) (tested c ok k) a rest e in
+        let s = steps (c .read bs) (tested ok k) a rest e in
         let p = passed (ok (s .value)) k (s .value) a (s .between) rest (s .second) in
         let is = l .only bs a rest (s .first ∙ p .1) in (is .0, (is .1, ap ok (sym (got-value (p .1))) ∙ p .0))
 
 pub called-lawful : {A B : Type 0} {c : Form A} {W : A → Type 0} (to : A → B) (from : B → A) → ((b : B) → to (from b) ≡ b)
     → ((a : A) → from (to a) ≡ a) → Lawful c W → Lawful (called c to from) (λ b. W (from b))
-unfolding called and-then named
+unfolding called and-then
 called-lawful {A} {B} {c} {W} to from there back-again l = record {
   back = λ b rest h. rw (l .back (from b) rest h, there b);
   only = only;
-  stays = λ bs more. and-then-stays (c .read bs) (c .read (bs ++ more)) more (named c to from) (whole l bs more)
+  stays = λ bs more. and-then-stays (c .read bs) (c .read (bs ++ more)) more (named to) (whole l bs more)
       (l .stays bs more) (λ a rest k e h. never e);
 }
   where
-    only : (bs : List ℕ) (b : B) (rest : List ℕ) → and-then (c .read bs) (named c to from) ≡ got b rest
+    only : (bs : List ℕ) (b : B) (rest : List ℕ) → and-then (c .read bs) (named to) ≡ got b rest
         → (bs ≡ c .write (from b) ++ rest) × W (from b)
     only bs b rest e =
-        let s = steps (c .read bs) (named c to from) b rest e in
+        let s = steps (c .read bs) (named to) b rest e in
         let is : from b ≡ s .value = ap from (sym (got-value (s .second))) ∙ back-again (s .value) in
         rw is (l .only bs (s .value) rest (s .first ∙ ap (λ r. got (s .value) r) (got-rest (s .second))))
 
 pub followed-lawful : {A B : Type 0} {c : Form A} {W : A → Type 0} {d : A → Form B} {X : A → B → Type 0} → Lawful c W → ((a : A) → Lawful (d a) (X a))
     → Lawful (followed c d) (λ p. W (p .0) × X (p .0) (p .1))
-unfolding followed and-then second written
+unfolding followed and-then
 followed-lawful {A} {B} {c} {W} {d} {X} l m = record {
   back = λ p rest h. rw (
     append-assoc (c .write (p .0)) (d (p .0) .write (p .1)) rest,
@@ -71,15 +80,15 @@ followed-lawful {A} {B} {c} {W} {d} {X} l m = record {
     m (p .0) .back (p .1) rest (h .1),
   );
   only = only;
-  stays = λ bs more. and-then-stays (c .read bs) (c .read (bs ++ more)) more (second c d) (whole l bs more) (l .stays bs more)
+  stays = λ bs more. and-then-stays (c .read bs) (c .read (bs ++ more)) more (second d) (whole l bs more) (l .stays bs more)
       (λ a rest. and-then-stays (d a .read rest) (d a .read (rest ++ more)) more (λ b r. got (a, b) r) (whole (m a) rest more)
       (m a .stays rest more) (λ b r k e h. never e));
 }
   where
-    only : (bs : List ℕ) (p : A × B) (rest : List ℕ) → and-then (c .read bs) (second c d) ≡ got p rest
-        → (bs ≡ written c d p ++ rest) × (W (p .0) × X (p .0) (p .1))
+    only : (bs : List ℕ) (p : A × B) (rest : List ℕ) → and-then (c .read bs) (second d) ≡ got p rest
+        → (bs ≡ (c .write (p .0) ++ d (p .0) .write (p .1)) ++ rest) × (W (p .0) × X (p .0) (p .1))
     only bs p rest e =
-        let s = steps (c .read bs) (second c d) p rest e in
+        let s = steps (c .read bs) (second d) p rest e in
         let t = steps (d (s .value) .read (s .between)) (λ b r. got (s .value, b) r) p rest (s .second) in
         let is : (s .value, t .value) ≡ p = got-value (t .second) in let one = l .only bs (s .value) (s .between) (s .first) in
         let two = m (s .value) .only (s .between) (t .value) rest (t .first ∙ ap (λ r. got (t .value) r) (got-rest (t .second))) in

@@ -8,7 +8,8 @@ use lib.Dec.{ltb}
 use lib.ListN.{length}
 use borrow.Author.Tests.{ltb-true, ltb-false, lt-ltb, le-ltb}
 use Rattle.blockfile.specs.Read.{Read, got, refused}
-use Rattle.blockfile.specs.Number.{carry, groups, read-number, digits, write-number}
+use Rattle.blockfile.specs.Number.{carry, groups, digits}
+use Rattle.blockfile.specs.Form.{number}
 use Rattle.blockfile.proofs.Readings.{got-value, got-rest, refused-number, never, Stays}
 
 -- what `left` groups and one more can hold: 16, 2048, .., and 4294967296 at 4
@@ -124,22 +125,22 @@ groups-stays (suc left) (b ∷ bs) more k e h =
 
 -- ---- the three laws of a number
 
-pub number-back : (n : ℕ) (rest : List ℕ) → n < 4294967296 → read-number (write-number n ++ rest) ≡ got n rest
-unfolding read-number write-number top
+pub number-back : (n : ℕ) (rest : List ℕ) → n < 4294967296 → number .read (number .write n ++ rest) ≡ got n rest
+unfolding number top
 number-back n rest h = digits-back 4 n rest h
 
-pub number-only : (bs : List ℕ) (n : ℕ) (rest : List ℕ) → read-number bs ≡ got n rest → (bs ≡ write-number n ++ rest) × (n < 4294967296)
-unfolding read-number write-number top
+pub number-only : (bs : List ℕ) (n : ℕ) (rest : List ℕ) → number .read bs ≡ got n rest → (bs ≡ number .write n ++ rest) × (n < 4294967296)
+unfolding number top
 number-only bs n rest e = let s = groups-only 4 bs n rest e in (s .spelt, s .small)
 
-pub number-stays : (bs more : List ℕ) → Stays (read-number bs) (read-number (bs ++ more))
-unfolding read-number
+pub number-stays : (bs more : List ℕ) → Stays (number .read bs) (number .read (bs ++ more))
+unfolding number
 number-stays bs more = groups-stays 4 bs more
 
 -- ---- how many bytes a number takes
 
-pub number-some : (n : ℕ) → 0 < length (write-number n)
-unfolding write-number digits
+pub number-some : (n : ℕ) → 0 < length (number .write n)
+unfolding number digits
 number-some n = go (ltb n 128)
   where
     go : (t : Bool) → 0 < length (cond t (n ∷ []) ((128 + n % 128) ∷ digits 3 (n / 128)))
@@ -155,8 +156,8 @@ digits-short (suc left) n = go (ltb n 128) (digits-short left (n / 128))
     go true h = omega arith
     go false h = omega arith
 
-pub number-short : (n : ℕ) → length (write-number n) ≤ 5
-unfolding write-number
+pub number-short : (n : ℕ) → length (number .write n) ≤ 5
+unfolding number
 number-short n = digits-short 4 n
 
 groups-enough : (left : ℕ) (bs : List ℕ) → groups left bs ≡ refused 15 → length bs < suc left
@@ -181,6 +182,6 @@ groups-enough (suc left) (b ∷ bs) e = go (ltb b 128) (ltb b 256) (λ q. groups
     go false true ih e = let h = ih (back (groups left bs) e) in omega arith
     go false false ih e = let z : _≡_ {A = ℕ} 16 15 = refused-number e in omega arith
 
-pub number-enough : (bs : List ℕ) → read-number bs ≡ refused 15 → length bs < 5
-unfolding read-number
+pub number-enough : (bs : List ℕ) → number .read bs ≡ refused 15 → length bs < 5
+unfolding number
 number-enough bs e = groups-enough 4 bs e

@@ -7,21 +7,22 @@ use native.Mathlib.Numerals.{add-one}
 use lib.ListN.{length, set, length-set}
 use lib.Seq.{sets}
 use borrow.Author.Tests.{lt-ltb, le-ltb}
-use Rattle.blockfile.specs.Number.{write-number, digits}
+use Rattle.blockfile.specs.Number.{digits}
+use Rattle.blockfile.specs.Form.{number}
 use Rattle.blockfile.specs.Inner.{Put}
 use Rattle.blockfile.proofs.Numbers.{top}
 
 -- `left`: how many groups may come before the last
 pub record Putting (s₀ : List ℕ) (at n₀ : ℕ) (s : List ℕ) (n i : ℕ) : Type 0 where
   pub left : ℕ
-  pub bytes : sets s₀ at (write-number n₀) ≡ sets s i (digits left n)
-  pub place : at + length (write-number n₀) ≡ i + length (digits left n)
+  pub bytes : sets s₀ at (number .write n₀) ≡ sets s i (digits left n)
+  pub place : at + length (number .write n₀) ≡ i + length (digits left n)
   pub small : n < top left
   pub room : i + left ≡ at + 4
   pub same-length : length s ≡ length s₀
 
 pub begin : (s : List ℕ) (at n : ℕ) → n < 4294967296 → Putting s at n s n at
-unfolding write-number top
+unfolding number top
 begin s at n h = record { left = 4; bytes = refl; place = refl; small = h; room = refl; same-length = refl }
 
 module _ {s₀ : List ℕ} {at n₀ : ℕ} {s : List ℕ} {n i : ℕ} (h : Putting s₀ at n₀ s n i) where
@@ -29,8 +30,8 @@ module _ {s₀ : List ℕ} {at n₀ : ℕ} {s : List ℕ} {n i : ℕ} (h : Putti
   unfolding top digits
   one-more large = go (h .left) (h .bytes) (h .place) (h .small) (h .room)
     where
-      go : (left : ℕ) → sets s₀ at (write-number n₀) ≡ sets s i (digits left n)
-          → at + length (write-number n₀) ≡ i + length (digits left n) → n < top left → i + left ≡ at + 4
+      go : (left : ℕ) → sets s₀ at (number .write n₀) ≡ sets s i (digits left n)
+          → at + length (number .write n₀) ≡ i + length (digits left n) → n < top left → i + left ≡ at + 4
           → Putting s₀ at n₀ (set s i (128 + n % 128)) (n / 128) (i + 1)
       go zero bytes place small room = absurd (omega arith)
       go (suc l) bytes place small room = record {
@@ -50,5 +51,5 @@ module _ {s₀ : List ℕ} {at n₀ : ℕ} {s : List ℕ} {n i : ℕ} (h : Putti
       go zero = refl
       go (suc l) = rw (lt-ltb n 128 few)
 
-  pub finish : n < 128 → at + 5 ≤ length s₀ → Put (write-number n₀) s₀ at (set s i n) (i + 1)
+  pub finish : n < 128 → at + 5 ≤ length s₀ → Put (number .write n₀) s₀ at (set s i n) (i + 1)
   finish few space = record { elements = rw (h .bytes, one-left few) refl; place = rw (h .place, one-left few) refl; room = omega (arith, h .room) }

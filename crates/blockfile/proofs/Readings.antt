@@ -1,10 +1,10 @@
 -- Laws of what reading gives.
 use mathlib.Core.Path.{_≡_, refl, sym, ap}
-use mathlib.Core.Bool.{Bool, true, false}
+use mathlib.Core.Bool.{Bool, true, false, cond}
 use mathlib.Core.List.{List, _++_}
 use Prim.Native.Nat.{ℕ}
 use native.Mathlib.Omega.{arith}
-use Rattle.blockfile.specs.Read.{Read, got, refused, and-then, test}
+use Rattle.blockfile.specs.Read.{Read, got, refused, and-then}
 
 pub got-value : {A : Type 0} {a b : A} {r s : List ℕ} → got a r ≡ got b s → a ≡ b
 got-value e = cc
@@ -41,13 +41,12 @@ unfolding and-then
 and-then-stays (got a rest) s more f whole stays later k e h = rw (whole a rest refl) (later a rest k e h)
 and-then-stays (refused j) s more f whole stays later k e h = rw (stays k (ap refused (refused-number e)) h)
 
-pub passed : {A : Type 0} (t : Bool) (k : ℕ) (a b : A) (r s : List ℕ) → test t k a r ≡ got b s → (t ≡ true) × (got a r ≡ got b s)
-unfolding test
+pub passed : {A : Type 0} (t : Bool) (k : ℕ) (a b : A) (r s : List ℕ) → cond t (got a r) (refused k) ≡ got b s
+    → (t ≡ true) × (got a r ≡ got b s)
 passed true k a b r s e = (refl, e)
 passed false k a b r s e = never (sym e)
 
-pub test-stays : {A : Type 0} (t : Bool) (k : ℕ) (a : A) (r s : List ℕ) → Stays (test t k a r) (test t k a s)
-unfolding test
+pub test-stays : {A : Type 0} (t : Bool) (k : ℕ) (a : A) (r s : List ℕ) → Stays (cond t (got a r) (refused k)) (cond t (got a s) (refused k))
 test-stays true k a r s j e h = never e
 test-stays false k a r s j e h = e
 

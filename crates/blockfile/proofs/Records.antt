@@ -13,15 +13,14 @@ use Rattle.levels.specs.Plans.{shift-of}
 use Rattle.levels.proofs.Sizes.{Sided, shift-sided, side-bounds}
 use Rattle.whole.specs.Checks.{accepted}
 use Rattle.blockfile.specs.Zigzag.{zig, zag}
-use Rattle.blockfile.specs.Form.{Form, number, followed, Each}
-use Rattle.blockfile.specs.Record.{sized, up-to, coefficient, pixel, size, Block, area, to-head, from-head, to-block, from-block}
-use Rattle.blockfile.specs.Record.{after-size, head-of, samples-of, record-of, announces, fifth, count, form, Plain}
+use Rattle.blockfile.specs.Form.{Each}
+use Rattle.blockfile.specs.Record.{sized, coefficient, pixel, size, Block, area, to-head, from-head, to-block, from-block, announces}
+use Rattle.blockfile.specs.Record.{fifth, head-of, count, form, Plain}
 use Rattle.blockfile.specs.declared.record.Head.{Head}
-use Rattle.blockfile.proofs.Numbers.{number-short}
+use Rattle.blockfile.proofs.Numbers.{number-some, number-short}
 use Rattle.blockfile.proofs.Zigzags.{zag-zig, zig-zag, zig-fits, fits-zig}
 use Rattle.blockfile.proofs.Forms.{Lawful, number-lawful, only-if-lawful, called-lawful, followed-lawful, times-lawful, each-map}
 use Rattle.blockfile.proofs.Rooms.{Room, more-room, number-room, only-if-room, called-room, followed-room, times-room, Some}
-use Rattle.blockfile.proofs.Rooms.{some-number, some-only-if, some-called, some-followed}
 
 -- ---- sizes
 
@@ -44,44 +43,32 @@ area-most h e = let s = sides-most (h .w) (h .h) e in le-trans (mul-le-mul (s .0
 abbrev Below : ℕ → Type 0
 Below n = n < 4294967296
 
-abbrev UpTo : ℕ → ℕ → Type 0
-UpTo most n = Below n × (leb n most ≡ true)
+abbrev IsCoefficient : ℤ → Type 0
+IsCoefficient v = Below (zig v)
+
+abbrev IsPixel : ℕ → Type 0
+IsPixel n = Below n × (leb n 65535 ≡ true)
 
 abbrev Sized : ℕ × ℕ → Type 0
 Sized s = (Below (s .0) × Below (s .1)) × (sized s ≡ true)
 
-abbrev HeadWith : (ℕ × ℕ → ℕ → Type 0) → Head → Type 0
-HeadWith F h = Sized (h .w, h .h) × (Below (h .txtp) × (Below (h .depth) × F (h .w, h .h) (h .announced)))
-
-abbrev BlockWith : (ℕ × ℕ → ℕ → Type 0) → (Head → ℕ) → Block → Type 0
-BlockWith F count b =
-    HeadWith F (b .head) × (Each (λ v. Below (zig v)) (count (b .head)) (b .coefficients) × Each (UpTo 65535) (area (b .head)) (b .pixels))
-
 -- ---- laws and room
 
-pub up-to-lawful : (most k : ℕ) → Lawful (up-to most k) (UpTo most)
-unfolding up-to
-up-to-lawful most k = only-if-lawful (λ n. leb n most) k number-lawful
-
-up-to-room : (most k : ℕ) → (k ≡ 15 → ⊥) → Room (up-to most k) (UpTo most) 5
-unfolding up-to
-up-to-room most k h = only-if-room (λ n. leb n most) k 5 h number-room
-
-pub coefficient-lawful : Lawful coefficient (λ v. Below (zig v))
+coefficient-lawful : Lawful coefficient IsCoefficient
 unfolding coefficient
 coefficient-lawful = called-lawful zag zig zag-zig zig-zag number-lawful
 
-pub coefficient-room : Room coefficient (λ v. Below (zig v)) 5
+coefficient-room : Room coefficient IsCoefficient 5
 unfolding coefficient
 coefficient-room = called-room zag zig 5 number-room
 
-pub pixel-lawful : Lawful pixel (UpTo 65535)
+pixel-lawful : Lawful pixel IsPixel
 unfolding pixel
-pixel-lawful = up-to-lawful 65535 19
+pixel-lawful = only-if-lawful (λ n. leb n 65535) 19 number-lawful
 
-pub pixel-room : Room pixel (UpTo 65535) 5
+pixel-room : Room pixel IsPixel 5
 unfolding pixel
-pixel-room = up-to-room 65535 19 (λ e. omega arith)
+pixel-room = only-if-room (λ n. leb n 65535) 19 5 (λ e. omega arith) number-room
 
 size-lawful : Lawful size Sized
 unfolding size
@@ -91,63 +78,9 @@ size-room : Room size Sized 10
 unfolding size
 size-room = only-if-room sized 1 10 (λ e. omega arith) (followed-room 5 5 number-lawful number-room (λ w h. number-room))
 
-module _ {fifth : ℕ × ℕ → Form ℕ} {F : ℕ × ℕ → ℕ → Type 0} (count : Head → ℕ) (l : (s : ℕ × ℕ) → Lawful (fifth s) (F s)) where
-  pub head-lawful : Lawful (head-of fifth) (HeadWith F)
-  unfolding head-of
-  head-lawful =
-      called-lawful to-head from-head (λ h. refl) (λ f. refl)
-      (followed-lawful size-lawful (λ s. followed-lawful number-lawful (λ txtp. followed-lawful number-lawful (λ depth. l s))))
-
-  pub record-lawful : Lawful (record-of fifth count) (BlockWith F count)
-  unfolding record-of samples-of
-  record-lawful =
-      called-lawful to-block from-block (λ b. refl) (λ f. refl)
-      (followed-lawful head-lawful (λ h. followed-lawful (times-lawful coefficient-lawful (count h)) (λ cs. times-lawful pixel-lawful (area h))))
-
-  module _ (r : (s : ℕ × ℕ) → Room (fifth s) (F s) 5) (few : (h : Head) → HeadWith F h → count h ≤ area h) where
-    head-room : Room (head-of fifth) (HeadWith F) 25
-    unfolding head-of
-    head-room =
-        called-room to-head from-head 25 (followed-room 10 15 size-lawful size-room
-        (λ s _. followed-room 5 10 number-lawful number-room (λ txtp _. followed-room 5 5 number-lawful number-room
-        (λ depth _. r s))))
-
-    samples-room : (h : Head) → HeadWith F h
-        → Room (samples-of count h) (λ f. Each (λ v. Below (zig v)) (count h) (f .0) × Each (UpTo 65535) (area h) (f .1)) 10240
-    unfolding samples-of
-    samples-room h w =
-        let most = area-most h (w .0 .1) in followed-room 5120 5120 (times-lawful coefficient-lawful (count h))
-        (more-room (count h * 5) 5120 (times-room 5 coefficient-lawful coefficient-room (count h)) (omega (arith, few h w)))
-        (λ cs _. more-room (area h * 5) 5120 (times-room 5 pixel-lawful pixel-room (area h)) (omega arith))
-
-    pub record-room : Room (record-of fifth count) (BlockWith F count) 10265
-    unfolding record-of
-    record-room = called-room to-block from-block 10265 (followed-room 25 10240 head-lawful head-room samples-room)
-
-some-head : (fifth : ℕ × ℕ → Form ℕ) → Some (head-of fifth)
-unfolding head-of size
-some-head fifth =
-    some-called (followed size (after-size fifth)) to-head from-head
-    (some-followed size (after-size fifth) (some-only-if (followed number (λ w. number)) sized 1 (some-followed number (λ w. number) some-number)))
-
-pub some-record : (fifth : ℕ × ℕ → Form ℕ) (count : Head → ℕ) → Some (record-of fifth count)
-unfolding record-of
-some-record fifth count =
-    some-called (followed (head-of fifth) (samples-of count)) to-block from-block (some-followed (head-of fifth) (samples-of count) (some-head fifth))
-
--- ---- a record of either version
-
-pub fifth-lawful : (v : ℕ) (s : ℕ × ℕ) → Lawful (fifth v s) (λ n. Below n × (announces v (s .1) n ≡ true))
-unfolding fifth
-fifth-lawful v s = only-if-lawful (announces v (s .1)) (cond (eqb v 2) 5 16) number-lawful
-
 not-15 : (t : Bool) → _≡_ {A = ℕ} (cond t 5 16) 15 → ⊥
 not-15 true e = omega arith
 not-15 false e = omega arith
-
-fifth-room : (v : ℕ) (s : ℕ × ℕ) → Room (fifth v s) (λ n. Below n × (announces v (s .1) n ≡ true)) 5
-unfolding fifth
-fifth-room v s = only-if-room (announces v (s .1)) (cond (eqb v 2) 5 16) 5 (not-15 (eqb v 2)) number-room
 
 pub both : (s t : Bool) → s && t ≡ true → (s ≡ true) × (t ≡ true)
 both true true e = (refl, refl)
@@ -167,20 +100,54 @@ count-most v h = go (eqb v 2)
     go false e = le-refl (area h)
 
 module _ (v : ℕ) where
+  abbrev Announced : ℕ × ℕ → ℕ → Type 0
+  Announced s n = Below n × (announces v (s .1) n ≡ true)
+
+  abbrev IsHead : Head → Type 0
+  IsHead h = Sized (h .w, h .h) × (Below (h .txtp) × (Below (h .depth) × Announced (h .w, h .h) (h .announced)))
+
   abbrev pub Writable : Block → Type 0
-  Writable = BlockWith (λ s n. Below n × (announces v (s .1) n ≡ true)) (count v)
+  Writable b = IsHead (b .head) × (Each IsCoefficient (count v (b .head)) (b .coefficients) × Each IsPixel (area (b .head)) (b .pixels))
+
+  fifth-lawful : (s : ℕ × ℕ) → Lawful (fifth v s) (Announced s)
+  unfolding fifth
+  fifth-lawful s = only-if-lawful (announces v (s .1)) (cond (eqb v 2) 5 16) number-lawful
+
+  fifth-room : (s : ℕ × ℕ) → Room (fifth v s) (Announced s) 5
+  unfolding fifth
+  fifth-room s = only-if-room (announces v (s .1)) (cond (eqb v 2) 5 16) 5 (not-15 (eqb v 2)) number-room
+
+  pub head-lawful : Lawful (head-of v) IsHead
+  unfolding head-of
+  head-lawful =
+      called-lawful to-head from-head (λ h. refl) (λ f. refl)
+      (followed-lawful size-lawful (λ s. followed-lawful number-lawful (λ txtp. followed-lawful number-lawful (λ depth. fifth-lawful s))))
+
+  head-room : Room (head-of v) IsHead 25
+  unfolding head-of
+  head-room =
+      called-room to-head from-head 25 (followed-room 10 15 size-lawful size-room (λ s _. followed-room 5 10 number-lawful number-room
+      (λ txtp _. followed-room 5 5 number-lawful number-room (λ depth _. fifth-room s))))
 
   pub form-lawful : Lawful (form v) Writable
   unfolding form
-  form-lawful = record-lawful (count v) (fifth-lawful v)
+  form-lawful =
+      called-lawful to-block from-block (λ b. refl) (λ f. refl) (followed-lawful head-lawful
+      (λ h. followed-lawful (times-lawful coefficient-lawful (count v h)) (λ cs. times-lawful pixel-lawful (area h))))
 
   pub form-room : Room (form v) Writable 10265
   unfolding form
-  form-room = record-room (count v) (fifth-lawful v) (fifth-room v) (λ h w. count-most v h (w .1 .1 .1 .1))
+  form-room =
+      called-room to-block from-block 10265 (followed-room 25 10240 head-lawful head-room (λ h w. let most = area-most h (w .0 .1) in
+      followed-room 5120 5120 (times-lawful coefficient-lawful (count v h))
+      (more-room (count v h * 5) 5120 (times-room 5 coefficient-lawful coefficient-room (count v h))
+      (omega (arith, count-most v h (w .1 .1 .1 .1))))
+      (λ cs _. more-room (area h * 5) 5120 (times-room 5 pixel-lawful pixel-room (area h)) (omega arith))))
 
+  -- a record takes a byte at least
   pub some-form : Some (form v)
-  unfolding form
-  some-form = some-record (fifth v) (count v)
+  unfolding form head-of size
+  some-form b = simp length-append (omega (arith, number-some (b .head .w)))
 
   pub writable : (b : Block) → Plain v b → Writable b
   writable b p =
@@ -209,7 +176,7 @@ pub coefficient-short : (v : ℤ) → length (coefficient .write v) ≤ 5
 unfolding coefficient
 coefficient-short v = number-short (zig v)
 
-pub head-short : (h : Head) → length (head-of (fifth 1) .write h) ≤ 25
+pub head-short : (h : Head) → length (head-of 1 .write h) ≤ 25
 unfolding head-of size fifth
 head-short h =
     simp length-append

@@ -1,16 +1,16 @@
 -- How many bytes a value can take: with so many at hand, reading never ends in 15. A program that reads a record at a time needs no
 -- larger buffer.
 use mathlib.Core.Path.{_≡_}
-use mathlib.Core.Bool.{Bool, true, false}
+use mathlib.Core.Bool.{Bool, true, false, cond}
 use mathlib.Core.List.{List, [], _∷_}
 use Prim.Native.Nat.{ℕ, zero, suc, _+_, _*_, _≤_, _<_}
 use native.Mathlib.Omega.{arith}
 use lib.ListN.{length, length-append}
-use Rattle.blockfile.specs.Read.{got, refused, and-then, test}
-use Rattle.blockfile.specs.Form.{Form, number, tested, only-if, named, called, second, written, followed, write-each, read-each, times, Each}
+use Rattle.blockfile.specs.Read.{got, refused, and-then}
+use Rattle.blockfile.specs.Form.{Form, number, only-if, called, followed, write-each, read-each, times, Each}
 use Rattle.blockfile.proofs.Readings.{refused-number, never, Fell, early, late, fell}
-use Rattle.blockfile.proofs.Numbers.{number-some, number-short, number-enough}
-use Rattle.blockfile.proofs.Forms.{Lawful}
+use Rattle.blockfile.proofs.Numbers.{number-short, number-enough}
+use Rattle.blockfile.proofs.Forms.{Lawful, tested, named, second}
 
 -- W says which values can be written
 pub record Room {A : Type 0} (c : Form A) (W : A → Type 0) (n : ℕ) : Type 0 where
@@ -21,47 +21,46 @@ pub more-room : {A : Type 0} {c : Form A} {W : A → Type 0} (m n : ℕ) → Roo
 more-room m n r h = record { short = λ a w. let x = r .short a w in omega arith; enough = λ bs e. let x = r .enough bs e in omega arith }
 
 pub number-room : Room number (λ n. n < 4294967296) 5
-unfolding number
 number-room = record { short = λ n h. number-short n; enough = number-enough }
 
-test-refusal : {A : Type 0} (t : Bool) (k : ℕ) (a : A) (rest : List ℕ) (j : ℕ) → test t k a rest ≡ refused j → (k ≡ j → ⊥) → ⊥
-unfolding test
+test-refusal : {A : Type 0} (t : Bool) (k : ℕ) (a : A) (rest : List ℕ) (j : ℕ) → cond t (got a rest) (refused k) ≡ refused j
+    → (k ≡ j → ⊥) → ⊥
 test-refusal true k a rest j e h = never e
 test-refusal false k a rest j e h = h (refused-number e)
 
 pub only-if-room : {A : Type 0} {c : Form A} {W : A → Type 0} (ok : A → Bool) (k n : ℕ) → (k ≡ 15 → ⊥) → Room c W n
     → Room (only-if c ok k) (λ a. W a × (ok a ≡ true)) n
-unfolding only-if tested
+unfolding only-if
 only-if-room {c} ok k n not-15 r = record
-    { short = λ a h. r .short a (h .0); enough = λ bs e. r .enough bs (first bs (fell (c .read bs) (tested c ok k) 15 e)) }
+    { short = λ a h. r .short a (h .0); enough = λ bs e. r .enough bs (first bs (fell (c .read bs) (tested ok k) 15 e)) }
   where
-    first : (bs : List ℕ) → Fell (c .read bs) (tested c ok k) 15 → c .read bs ≡ refused 15
+    first : (bs : List ℕ) → Fell (c .read bs) (tested ok k) 15 → c .read bs ≡ refused 15
     first bs (early e) = e
     first bs (late a rest e f) = absurd (test-refusal (ok a) k a rest 15 f not-15)
 
 pub called-room : {A B : Type 0} {c : Form A} {W : A → Type 0} (to : A → B) (from : B → A) (n : ℕ) → Room c W n
     → Room (called c to from) (λ b. W (from b)) n
-unfolding called named
+unfolding called
 called-room {c} to from n r =
-    record { short = λ b h. r .short (from b) h; enough = λ bs e. r .enough bs (first bs (fell (c .read bs) (named c to from) 15 e)) }
+    record { short = λ b h. r .short (from b) h; enough = λ bs e. r .enough bs (first bs (fell (c .read bs) (named to) 15 e)) }
   where
-    first : (bs : List ℕ) → Fell (c .read bs) (named c to from) 15 → c .read bs ≡ refused 15
+    first : (bs : List ℕ) → Fell (c .read bs) (named to) 15 → c .read bs ≡ refused 15
     first bs (early e) = e
     first bs (late a rest e q) = never q
 
 pub followed-room : {A B : Type 0} {c : Form A} {W : A → Type 0} {d : A → Form B} {X : A → B → Type 0} (m n : ℕ) → Lawful c W
     → Room c W m → ((a : A) → W a → Room (d a) (X a) n) → Room (followed c d) (λ p. W (p .0) × X (p .0) (p .1)) (m + n)
-unfolding followed written second
+unfolding followed
 followed-room {A} {B} {c} {d} m n l r s = record {
   short = λ p h. rw length-append (let x = r .short (p .0) (h .0) in let y = s (p .0) (h .0) .short (p .1) (h .1) in omega arith);
-  enough = λ bs e. go bs (fell (c .read bs) (second c d) 15 e);
+  enough = λ bs e. go bs (fell (c .read bs) (second d) 15 e);
 }
   where
     later : (a : A) (rest : List ℕ) → Fell {B = A × B} (d a .read rest) (λ b r. got (a, b) r) 15 → d a .read rest ≡ refused 15
     later a rest (early e) = e
     later a rest (late b r e q) = never q
 
-    go : (bs : List ℕ) → Fell (c .read bs) (second c d) 15 → length bs < m + n
+    go : (bs : List ℕ) → Fell (c .read bs) (second d) 15 → length bs < m + n
     go bs (early e) = let x = r .enough bs e in omega arith
     go bs (late a rest e q) =
         let one = l .only bs a rest e in let x = r .short a (one .1) in
@@ -103,19 +102,3 @@ module _ {A : Type 0} {c : Form A} {W : A → Type 0} (m : ℕ) (l : Lawful c W)
 
 abbrev pub Some : {A : Type 0} → Form A → Type 0
 Some {A} c = (a : A) → 0 < length (c .write a)
-
-pub some-number : Some number
-unfolding number
-some-number n = number-some n
-
-pub some-only-if : {A : Type 0} (c : Form A) (ok : A → Bool) (k : ℕ) → Some c → Some (only-if c ok k)
-unfolding only-if
-some-only-if c ok k h a = h a
-
-pub some-called : {A B : Type 0} (c : Form A) (to : A → B) (from : B → A) → Some c → Some (called c to from)
-unfolding called
-some-called c to from h b = h (from b)
-
-pub some-followed : {A B : Type 0} (c : Form A) (d : A → Form B) → Some c → Some (followed c d)
-unfolding followed written
-some-followed c d h p = rw length-append (omega (arith, h (p .0)))

@@ -1,5 +1,5 @@
 -- What the loop of `read_number` keeps: the number is what the groups passed came to and what the definition reads from here on.
-use mathlib.Core.Path.{_≡_, refl, sym, ap, _∙_}
+use mathlib.Core.Path.{_≡_, refl, ap, _∙_}
 use mathlib.Core.Bool.{Bool, true, false, cond, _&&_, and-false}
 use mathlib.Core.List.{List, _∷_}
 use Prim.Native.Nat.{ℕ, zero, suc, _+_, _-_, _*_, _≤_, _<_}
@@ -7,13 +7,14 @@ use native.Mathlib.Omega.{arith}
 use native.Mathlib.Nat.{mul-le-mul-left, mul-le-mul-right}
 use native.Mathlib.Numerals.{add-one}
 use lib.Dec.{eqb, ltb}
-use lib.ListN.{length, getD, drop, drop-of-length-le, length-drop}
+use lib.ListN.{length, getD, drop, drop-of-length-le}
 use lib.Seq.{drop-cons}
 use borrow.Author.Tests.{lt-ltb, le-ltb, ne-eqb}
 use Rattle.blockfile.specs.Read.{Read, got, refused}
-use Rattle.blockfile.specs.Number.{read-number, groups, carry}
+use Rattle.blockfile.specs.Number.{groups, carry}
 use Rattle.blockfile.specs.declared.number.Number.the-variants.{Got, Refused}
-use Rattle.blockfile.specs.Inner.{number-of, number-from, last-group}
+use Rattle.blockfile.specs.Form.{number}
+use Rattle.blockfile.specs.Inner.{NumberAt, last-group}
 use Rattle.blockfile.proofs.Numbers.{top, top-pos}
 
 -- what groups that came to `value`, the next of which counts `scale`, make of the number after them
@@ -22,7 +23,7 @@ folded scale value (got v rest) = cond (eqb v 0 && ltb 1 scale) (refused 17) (go
 folded scale value (refused k) = refused k
 
 pub record Reading (s : List ℕ) (at i left value scale : ℕ) : Type 0 where
-  pub so-far : read-number (drop at s) ≡ folded scale value (groups left (drop i s))
+  pub so-far : groups 4 (drop at s) ≡ folded scale value (groups left (drop i s))
   pub room : scale * top left ≡ 4294967296
   pub below : value < scale
 
@@ -32,7 +33,7 @@ folded-first (got v rest) = let one : v ≡ 0 + v * 1 = omega arith in rw (and-f
 folded-first (refused k) = refl
 
 pub start : (s : List ℕ) (at : ℕ) → Reading s at at 4 0 1
-unfolding read-number top
+unfolding top
 start s at = record { so-far = folded-first (groups 4 (drop at s)); room = refl; below = omega arith }
 
 folded-carry : (b scale value : ℕ) → 0 < scale → (r : Read ℕ) → folded scale value (carry b r) ≡ folded (scale * 128) (value + (b - 128) * scale) r
@@ -44,46 +45,47 @@ folded-carry b scale value h (got (suc v) rest) =
 folded-carry b scale value h (refused k) = refl
 
 module _ {s : List ℕ} {at i left value scale : ℕ} (h : Reading s at i left value scale) where
-  pub ended : length s ≤ i → Refused 15 ≡ number-from s at
-  unfolding number-from folded number-of groups
+  pub ended : length s ≤ i → NumberAt s at (Refused 15)
+  unfolding number folded groups
   ended e = rw (h .so-far, drop-of-length-le s e)
 
   module _ (inside : i < length s) where
     here : drop i s ≡ getD s i 0 ∷ drop (i + 1) s
     here = rw (add-one, drop-cons s i 0)
 
-    is-last : number-of (length s) (folded scale value (got (getD s i 0) (drop (i + 1) s))) ≡ last-group value scale (getD s i 0) (i + 1)
-    unfolding number-of folded last-group
-    is-last = go (eqb (getD s i 0) 0 && ltb 1 scale)
+    is-last : groups 4 (drop at s) ≡ folded scale value (got (getD s i 0) (drop (i + 1) s))
+        → NumberAt s at (last-group value scale (getD s i 0) (i + 1))
+    unfolding number folded last-group
+    is-last e = go (eqb (getD s i 0) 0 && ltb 1 scale) e
       where
-        go : (t : Bool) → number-of (length s) (cond t (refused 17) (got (value + getD s i 0 * scale) (drop (i + 1) s))) ≡ cond
-            t (Refused 17) (Got (value + getD s i 0 * scale) (i + 1))
-        go true = refl
-        go false = ap (λ (n : ℕ). Got (value + getD s i 0 * scale) n) (rw length-drop (omega arith))
+        go : (t : Bool) → groups 4 (drop at s) ≡ cond t (refused 17) (got (value + getD s i 0 * scale) (drop (i + 1) s))
+            → NumberAt s at (cond t (Refused 17) (Got (value + getD s i 0 * scale) (i + 1)))
+        go true e = e
+        go false e = record { read = e; inside = omega arith }
 
-    pub highest-last : left ≡ 0 → getD s i 0 < 16 → last-group value scale (getD s i 0) (i + 1) ≡ number-from s at
-    unfolding number-from groups
-    highest-last e b = rw (h .so-far, here, e, lt-ltb (getD s i 0) 16 b) (sym is-last)
+    pub highest-last : left ≡ 0 → getD s i 0 < 16 → NumberAt s at (last-group value scale (getD s i 0) (i + 1))
+    unfolding groups
+    highest-last e b = is-last (h .so-far ∙ rw (here, e, lt-ltb (getD s i 0) 16 b))
 
-    pub highest-large : left ≡ 0 → 16 ≤ getD s i 0 → Refused 16 ≡ number-from s at
-    unfolding number-from groups folded number-of
-    highest-large e b = rw (h .so-far, here, e, le-ltb (getD s i 0) 16 b)
+    pub highest-large : left ≡ 0 → 16 ≤ getD s i 0 → NumberAt s at (Refused 16)
+    unfolding number groups folded
+    highest-large e b = h .so-far ∙ rw (here, e, le-ltb (getD s i 0) 16 b)
 
-    pub later-last : (left ≡ 0 → ⊥) → getD s i 0 < 128 → last-group value scale (getD s i 0) (i + 1) ≡ number-from s at
-    unfolding number-from groups
+    pub later-last : (left ≡ 0 → ⊥) → getD s i 0 < 128 → NumberAt s at (last-group value scale (getD s i 0) (i + 1))
+    unfolding groups
     later-last n b = go left n (h .so-far)
       where
-        go : (l : ℕ) → (l ≡ 0 → ⊥) → read-number (drop at s) ≡ folded scale value (groups l (drop i s))
-            → last-group value scale (getD s i 0) (i + 1) ≡ number-of (length s) (read-number (drop at s))
+        go : (l : ℕ) → (l ≡ 0 → ⊥) → groups 4 (drop at s) ≡ folded scale value (groups l (drop i s))
+            → NumberAt s at (last-group value scale (getD s i 0) (i + 1))
         go zero n e = absurd (n refl)
-        go (suc l) n e = rw (e, here, lt-ltb (getD s i 0) 128 b) (sym is-last)
+        go (suc l) n e = is-last (e ∙ rw (here, lt-ltb (getD s i 0) 128 b))
 
     pub go-on : (left ≡ 0 → ⊥) → 128 ≤ getD s i 0 → getD s i 0 < 256
         → Reading s at (i + 1) (left - 1) (value + (getD s i 0 - 128) * scale) (scale * 128)
     unfolding groups top
     go-on n low high = go left n (h .so-far) (h .room) (h .below) (mul-le-mul-right scale (omega arith))
       where
-        go : (l : ℕ) → (l ≡ 0 → ⊥) → read-number (drop at s) ≡ folded scale value (groups l (drop i s)) → scale * top l ≡ 4294967296 → value < scale
+        go : (l : ℕ) → (l ≡ 0 → ⊥) → groups 4 (drop at s) ≡ folded scale value (groups l (drop i s)) → scale * top l ≡ 4294967296 → value < scale
             → (getD s i 0 - 128) * scale ≤ 127 * scale
             → Reading s at (i + 1) (l - 1) (value + (getD s i 0 - 128) * scale) (scale * 128)
         go zero n e room below most = absurd (n refl)

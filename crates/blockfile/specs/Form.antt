@@ -1,47 +1,36 @@
 -- A form: how the values of a type are written, and how they are read. Every form is made of numbers in four ways.
-use mathlib.Core.Bool.{Bool}
+use mathlib.Core.Bool.{Bool, cond}
 use mathlib.Core.List.{List, [], _∷_, _++_}
 use Prim.Native.Nat.{ℕ, zero, suc}
-use Rattle.blockfile.specs.Read.{Read, got, and-then, test}
-use Rattle.blockfile.specs.Number.{read-number, write-number}
+use Rattle.blockfile.specs.Read.{Read, got, refused, and-then}
+use Rattle.blockfile.specs.Number.{groups, digits}
 
 pub record Form (A : Type 0) : Type 0 where
   pub write : A → List ℕ
   pub read : List ℕ → Read A
 
+-- "numbers in groups of seven bits" (E1): five groups at most
 unfoldable pub number : Form ℕ
-unfolding read-number write-number
-number = record { write = write-number; read = read-number }
+unfolding groups digits
+number = record { write = digits 4; read = groups 4 }
 
 -- c, of which a value that fails a test is refused by the number k
-module _ {A : Type 0} (c : Form A) (ok : A → Bool) (k : ℕ) where
-  unfoldable pub tested : A → List ℕ → Read A
-  tested a rest = test (ok a) k a rest
-
-  unfoldable pub only-if : Form A
-  unfolding tested test and-then
-  only-if = record { write = c .write; read = λ bs. and-then (c .read bs) tested }
+unfoldable pub only-if : {A : Type 0} → Form A → (A → Bool) → ℕ → Form A
+unfolding and-then
+only-if c ok k = record { write = c .write; read = λ bs. and-then (c .read bs) (λ a rest. cond (ok a) (got a rest) (refused k)) }
 
 -- c, its values called otherwise: `to` and `from` are inverse
-module _ {A B : Type 0} (c : Form A) (to : A → B) (from : B → A) where
-  unfoldable pub named : A → List ℕ → Read B
-  named a rest = got (to a) rest
-
-  unfoldable pub called : Form B
-  unfolding named and-then
-  called = record { write = λ b. c .write (from b); read = λ bs. and-then (c .read bs) named }
+unfoldable pub called : {A B : Type 0} → Form A → (A → B) → (B → A) → Form B
+unfolding and-then
+called c to from = record { write = λ b. c .write (from b); read = λ bs. and-then (c .read bs) (λ a rest. got (to a) rest) }
 
 -- c and then d, which may go by what c has
-module _ {A B : Type 0} (c : Form A) (d : A → Form B) where
-  unfoldable pub second : A → List ℕ → Read (A × B)
-  second a bs = and-then (d a .read bs) (λ b rest. got (a, b) rest)
-
-  unfoldable pub written : A × B → List ℕ
-  written p = c .write (p .0) ++ d (p .0) .write (p .1)
-
-  unfoldable pub followed : Form (A × B)
-  unfolding second written and-then
-  followed = record { write = written; read = λ bs. and-then (c .read bs) second }
+unfoldable pub followed : {A B : Type 0} → Form A → (A → Form B) → Form (A × B)
+unfolding and-then
+followed c d = record {
+  write = λ p. c .write (p .0) ++ d (p .0) .write (p .1);
+  read = λ bs. and-then (c .read bs) (λ a rest. and-then (d a .read rest) (λ b rest. got (a, b) rest));
+}
 
 -- c, n times
 module _ {A : Type 0} (c : Form A) where

@@ -22,14 +22,7 @@ groups zero (b ∷ bs) = cond (ltb b 16) (got b bs) (refused 16)
 groups (suc left) (b ∷ bs) =
     cond (ltb b 128) (got b bs) (cond (ltb b 256) (carry b (groups left bs)) (refused 16))
 
-unfoldable pub read-number : List ℕ → Read ℕ
-unfolding groups
-read-number bs = groups 4 bs
-
+-- and how it is written
 unfoldable pub digits : ℕ → ℕ → List ℕ
 digits zero n = n ∷ []
 digits (suc left) n = cond (ltb n 128) (n ∷ []) ((128 + n % 128) ∷ digits left (n / 128))
-
-unfoldable pub write-number : ℕ → List ℕ
-unfolding digits
-write-number n = digits 4 n

@@ -1,5 +1,4 @@
 -- What reading at the front of some bytes gives: a value and the bytes after it, or the number of a refusal.
-use mathlib.Core.Bool.{Bool, true, false}
 use mathlib.Core.List.{List}
 use Prim.Native.Nat.{ℕ}
 
@@ -11,8 +10,3 @@ pub data Read (A : Type 0) : Type 0 where
 unfoldable pub and-then : {A B : Type 0} → Read A → (A → List ℕ → Read B) → Read B
 and-then (got a rest) f = f a rest
 and-then (refused k) f = refused k
-
--- what was got passes a test, or is refused by the number k
-unfoldable pub test : {A : Type 0} → Bool → ℕ → A → List ℕ → Read A
-test true k a rest = got a rest
-test false k a rest = refused k

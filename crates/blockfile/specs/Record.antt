@@ -19,18 +19,14 @@ use Rattle.blockfile.specs.declared.record.Head.{Head}
 unfoldable pub sized : ℕ × ℕ → Bool
 sized s = accepted (shift-of (s .0) (s .1))
 
-unfoldable pub up-to : ℕ → ℕ → Form ℕ
-unfolding only-if number
-up-to most k = only-if number (λ n. leb n most) k
-
 unfoldable pub coefficient : Form ℤ
 unfolding called number zag
 coefficient = called number zag zig
 
 -- "19 pixel above 65535"
 unfoldable pub pixel : Form ℕ
-unfolding up-to
-pixel = up-to 65535 19
+unfolding only-if number
+pixel = only-if number (λ n. leb n 65535) 19
 
 -- "the size is judged as soon as h is read"
 unfoldable pub size : Form (ℕ × ℕ)
@@ -57,24 +53,10 @@ to-block f = record { head = f .0; coefficients = f .1 .0; pixels = f .1 .1 }
 abbrev pub from-block : Block → Head × (List ℤ × List ℕ)
 from-block b = (b .head, (b .coefficients, b .pixels))
 
--- The fifth number is read by `fifth`, which may go by the size; `count` tells how many coefficients follow a head.
-abbrev pub after-size : (ℕ × ℕ → Form ℕ) → ℕ × ℕ → Form (ℕ × (ℕ × ℕ))
-after-size fifth s = followed number (λ txtp. followed number (λ depth. fifth s))
+-- ---- in a file that begins with v
 
-unfoldable pub head-of : (ℕ × ℕ → Form ℕ) → Form Head
-unfolding size called followed
-head-of fifth = called (followed size (after-size fifth)) to-head from-head
-
-unfoldable pub samples-of : (Head → ℕ) → Head → Form (List ℤ × List ℕ)
-unfolding coefficient pixel times followed
-samples-of count h = followed (times coefficient (count h)) (λ cs. times pixel (area h))
-
-unfoldable pub record-of : (ℕ × ℕ → Form ℕ) → (Head → ℕ) → Form Block
-unfolding head-of samples-of
-record-of fifth count = called (followed (head-of fifth) (samples-of count)) to-block from-block
-
--- Whether a block of height h can announce the number n, in a file that begins with v: "16 .. eob above 2147483647" (E1); in version 2 "r, the
--- live rows", and "5 is answered as soon as r is read" (E11).
+-- Whether a block of height h can announce the number n: "16 .. eob above 2147483647" (E1); in version 2 "r, the live rows", and "5 is answered as
+-- soon as r is read" (E11).
 abbrev pub announces : ℕ → ℕ → ℕ → Bool
 announces v h n = cond (eqb v 2) (leb 1 n && leb n h) (leb n 2147483647)
 
@@ -82,14 +64,18 @@ unfoldable pub fifth : ℕ → ℕ × ℕ → Form ℕ
 unfolding only-if number
 fifth v s = only-if number (announces v (s .1)) (cond (eqb v 2) 5 16)
 
+unfoldable pub head-of : ℕ → Form Head
+unfolding size called followed fifth
+head-of v = called (followed size (λ s. followed number (λ txtp. followed number (λ depth. fifth v s)))) to-head from-head
+
 -- how many coefficients the file has: all, or "only rows 0 to r-1"
 abbrev pub count : ℕ → Head → ℕ
 count v h = cond (eqb v 2) (h .announced * h .w) (area h)
 
--- a record of a file that begins with v
 unfoldable pub form : ℕ → Form Block
-unfolding record-of fifth
-form v = record-of (fifth v) (count v)
+unfolding head-of coefficient pixel times called followed
+form v =
+    called (followed (head-of v) (λ h. followed (times coefficient (count v h)) (λ cs. times pixel (area h)))) to-block from-block
 
 -- which blocks such a file can hold
 pub record Plain (v : ℕ) (b : Block) : Type 0 where

@@ -1,5 +1,7 @@
 -- "A coefficient v is written as 2v, or as -2v-1 if negative" (E1).
-use Prim.Native.Nat.{ℕ, zero, suc, _+_, _*_, _/_, _%_}
+use mathlib.Core.Bool.{cond}
+use Prim.Native.Nat.{ℕ, _+_, _*_, _/_, _%_}
+use lib.Dec.{eqb}
 use lib.IntN.{ℤ, pos, negsuc}
 
 -- `negsuc n` is -(n + 1), so -2v-1 is 2n + 1
@@ -7,9 +9,5 @@ unfoldable pub zig : ℤ → ℕ
 zig (pos n) = 2 * n
 zig (negsuc n) = 2 * n + 1
 
-abbrev pub signed : ℕ → ℕ → ℤ
-signed zero half = pos half
-signed (suc odd) half = negsuc half
-
 unfoldable pub zag : ℕ → ℤ
-zag n = signed (n % 2) (n / 2)
+zag n = cond (eqb (n % 2) 0) (pos (n / 2)) (negsuc (n / 2))

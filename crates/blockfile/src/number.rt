@@ -2,9 +2,9 @@
 ghost use mathlib.Core.Path.{_≡_};
 ghost use Prim.Native.Nat.{_+_, _*_, _≤_, _<_};
 ghost use lib.ListN.{length};
-ghost use Rattle.blockfile.specs.Number.{write-number};
+ghost use Rattle.blockfile.specs.Form.{number};
 ghost use Rattle.blockfile.specs.Zigzag.{zig, zag};
-ghost use Rattle.blockfile.specs.Inner.{number-from, last-group, number-refusal, Put};
+ghost use Rattle.blockfile.specs.Inner.{NumberAt, last-group, number-refusal, Put};
 
 // A number and the place after it, or the number of a refusal.
 pub enum Number {
@@ -40,7 +40,7 @@ fn last_group(value: u32, scale: u32, b: u32, next: usize) -> Number
 
 // The number at the place `at`.
 pub fn read_number(s: &[u8], at: usize) -> Number
-    ensures { λ r. ⌜ r ≡ number-from (now (s .entry)) at ⌝ }
+    ensures { λ r. ⌜ NumberAt (now (s .entry)) at r ⌝ }
 {
     let mut i = at;
     let mut left: u32 = 4;
@@ -70,7 +70,7 @@ pub fn read_number(s: &[u8], at: usize) -> Number
 // Writes n at the place `at`, where five bytes have room, and answers the place after it.
 pub fn write_number(out: &mut [u8], at: usize, n: u32) -> usize
     requires { ⌜ at + 5 ≤ length (now out) ⌝ }
-    ensures { λ r. ⌜ Put (write-number n) (now (out .entry)) at (now (out .exit)) r ⌝ }
+    ensures { λ r. ⌜ Put (number .write n) (now (out .entry)) at (now (out .exit)) r ⌝ }
 {
     let mut n = n;
     let mut i = at;

@@ -4,8 +4,8 @@ ghost use mathlib.Core.Bool.{true, cond};
 ghost use Prim.Native.Nat.{_+_, _*_, _≤_};
 ghost use lib.Dec.{eqb};
 ghost use lib.ListN.{length};
-ghost use Rattle.blockfile.specs.Record.{sized, announces, count, head-of, fifth, form};
-ghost use Rattle.blockfile.specs.Inner.{head-at, RecordAt, Put, head-refusal};
+ghost use Rattle.blockfile.specs.Record.{sized, announces, head-of, form};
+ghost use Rattle.blockfile.specs.Inner.{HeadAt, RecordAt, Put, head-refusal, block-of};
 use crate::number::Number;
 use crate::number::read_number;
 use crate::number::refusal;
@@ -93,7 +93,7 @@ pub fn coefficient_count(version: u32, w: u32, h: u32, n: u32) -> u32
 
 // The head at the place `at`, in a file that begins with `version`.
 pub fn read_head(s: &[u8], at: usize, version: u32) -> HeadRead
-    ensures { λ r. ⌜ r ≡ head-at version (now (s .entry)) at ⌝ }
+    ensures { λ r. ⌜ HeadAt version (now (s .entry)) at r ⌝ }
 {
     let first = read_number(s, at);
     let Number::Got { value: w, next: a } = first else {
@@ -133,7 +133,7 @@ pub fn read_head(s: &[u8], at: usize, version: u32) -> HeadRead
     }
 }
 
-// The record at the place `at`: its coefficients and pixels go to the fronts of two slices. On a refusal these hold what was read before it.
+// The record at the place `at`: its coefficients and pixels go to the fronts of two slices.
 pub fn read_record(
     s: &[u8],
     at: usize,
@@ -142,8 +142,7 @@ pub fn read_record(
     pixels: &mut [u16],
 ) -> Found
     requires { ⌜ (1024 ≤ length (now coefficients)) × (1024 ≤ length (now pixels)) ⌝ }
-    ensures { λ r. ⌜ RecordAt version (now (s .entry)) at (now (coefficients .entry)) (now (pixels .entry))
-        (now (coefficients .exit)) (now (pixels .exit)) r ⌝ }
+    ensures { λ r. ⌜ RecordAt version (now (s .entry)) at (now (coefficients .exit)) (now (pixels .exit)) r ⌝ }
 {
     if s.len() <= at {
         return Found::End;
@@ -171,7 +170,7 @@ pub fn read_record(
 // Writes a head at the place `at`, where 25 bytes have room, and answers the place after it.
 fn write_head(out: &mut [u8], at: usize, head: Head) -> usize
     requires { ⌜ at + 25 ≤ length (now out) ⌝ }
-    ensures { λ r. ⌜ Put (head-of (fifth 1) .write head) (now (out .entry)) at (now (out .exit)) r ⌝ }
+    ensures { λ r. ⌜ Put (head-of 1 .write head) (now (out .entry)) at (now (out .exit)) r ⌝ }
 {
     let a = write_number(out, at, head.w);
     let b = write_number(out, a, head.h);
@@ -189,9 +188,8 @@ pub fn write_record(
     pixels: &[u16],
 ) -> usize
     requires { ⌜ (at + 10265 ≤ length (now out)) × (length (now coefficients) ≤ 1024) × (length (now pixels) ≤ 1024) ⌝ }
-    ensures { λ r. ⌜ Put (form 1 .write
-        (record { head = head; coefficients = now (coefficients .entry); pixels = now (pixels .entry) })) (now (out .entry))
-        at (now (out .exit)) r ⌝ }
+    ensures { λ r. ⌜ Put (form 1 .write (block-of head (now (coefficients .entry)) (now (pixels .entry)))) (now (out .entry)) at
+        (now (out .exit)) r ⌝ }
 {
     let p = write_head(out, at, head);
     let q = write_coefficients(out, p, coefficients);

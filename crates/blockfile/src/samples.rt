@@ -4,7 +4,7 @@ ghost use mathlib.Core.Path.{_≡_};
 ghost use lib.ListN.{length};
 ghost use Rattle.blockfile.specs.Form.{write-each};
 ghost use Rattle.blockfile.specs.Record.{pixel, coefficient};
-ghost use Rattle.blockfile.specs.Inner.{place-refusal, Filled, Put};
+ghost use Rattle.blockfile.specs.Inner.{place-refusal, EachAt, Put};
 use crate::number::Number;
 use crate::number::coefficient_of;
 use crate::number::number_of;
@@ -27,10 +27,10 @@ pub fn refusal(p: Place) -> u8
     }
 }
 
-// Reads n coefficients at the place `at` to the front of out. On a refusal out holds those before it.
+// Reads n coefficients at the place `at` to the front of out.
 pub fn read_coefficients(s: &[u8], at: usize, n: usize, out: &mut [i32]) -> Place
     requires { ⌜ (at ≤ length (now s)) × (n ≤ length (now out)) ⌝ }
-    ensures { λ r. ⌜ Filled coefficient (now (s .entry)) at n (now (out .entry)) (now (out .exit)) r ⌝ }
+    ensures { λ r. ⌜ EachAt coefficient (now (s .entry)) at n (now (out .exit)) r ⌝ }
 {
     let mut p = at;
     let mut i = 0;
@@ -48,10 +48,10 @@ pub fn read_coefficients(s: &[u8], at: usize, n: usize, out: &mut [i32]) -> Plac
     Place::At(p)
 }
 
-// Reads n pixels at the place `at` to the front of out. On a refusal out holds those before it.
+// Reads n pixels at the place `at` to the front of out.
 pub fn read_pixels(s: &[u8], at: usize, n: usize, out: &mut [u16]) -> Place
     requires { ⌜ (at ≤ length (now s)) × (n ≤ length (now out)) ⌝ }
-    ensures { λ r. ⌜ Filled pixel (now (s .entry)) at n (now (out .entry)) (now (out .exit)) r ⌝ }
+    ensures { λ r. ⌜ EachAt pixel (now (s .entry)) at n (now (out .exit)) r ⌝ }
 {
     let mut p = at;
     let mut i = 0;

@@ -1,7 +1,7 @@
 -- What the act in the code does: version 2's rows are laid into the buffer, and what the call leaves of them is zero.
-use mathlib.Core.Path.{_≡_, refl, sym, ap, _∙_, subst}
+use mathlib.Core.Path.{_≡_, sym, ap, _∙_, subst}
 use mathlib.Core.Bool.{Bool, true, false, cond, _&&_}
-use mathlib.Core.List.{List, [], _∷_, _++_, append-nil}
+use mathlib.Core.List.{List, _++_, append-nil}
 use Prim.Native.Nat.{ℕ, _*_, _≤_}
 use native.Mathlib.Omega.{arith}
 use borrow.Author.Tests.{leb-true}
@@ -21,7 +21,8 @@ use Rattle.levels.proofs.Sizes.{side-bounds}
 use Rattle.blockfile.proofs.Records.{both, sides, area-most, count-most, sides-most}
 use Rattle.jobs.specs.Rows.{spread, gathered, Live}
 use Rattle.jobs.specs.Act.{call}
-use Rattle.jobs.specs.Inner.{block-of, Acted, Ready}
+use Rattle.blockfile.specs.Inner.{block-of}
+use Rattle.jobs.specs.Inner.{Acted, Ready}
 use Rattle.jobs.proofs.Zeros.{left-zero, gathered-zero}
 
 pub narrow : {v : ℕ} {h : Head} {cs : List ℤ} → Ready v h cs → h .w ≤ 32

@@ -1,7 +1,7 @@
 -- What the program of E1 and E11 does with a record: the call on the record's own pixels, as a plane of their own. "The blocks run by the live-row
 -- call" (E11): those of version 2.
 use mathlib.Core.Bool.{false, cond}
-use mathlib.Core.List.{[]}
+use mathlib.Core.List.{List, []}
 use Prim.Native.Nat.{ℕ}
 use lib.Dec.{eqb}
 use lib.IntN.{pos}
@@ -12,10 +12,10 @@ use Rattle.checks.specs.Table as Table
 use Rattle.blockfile.specs.Form.{number}
 use Rattle.blockfile.specs.Record.{Block, form}
 use Rattle.blockfile.specs.declared.record.Head.{Head}
-use Rattle.blockfile.specs.File.{known}
 use Rattle.jobs.specs.Rows.{buffered, in-file}
 use Rattle.text.specs.Text.{refused-line}
-use Rattle.jobs.specs.Task.{Written, both, nothing, Done, done, bad, End, here, refused-at, Task}
+use Rattle.blockfile.specs.File.{End, here, refused-at}
+use Rattle.jobs.specs.Task.{Written, both, Done, done, bad, Task}
 
 -- what the record announces: r in version 2, else eob
 abbrev pub call-for : ℕ → Head → Call
@@ -29,15 +29,17 @@ given v b =
 abbrev pub call : ℕ → Block → Outcome
 call v b = outcome (call-for v (b .head)) (given v b)
 
+-- what was done, if the call was accepted
+unfoldable pub done-by : {A : Type 0} → Outcome → A → Done A
+done-by o a = cond (eqb (o .answer .number) 0) (done a) (bad (o .answer .number))
+
 -- the record with pixels and coefficients as the call left them
-unfoldable pub left : ℕ → Block → Outcome → Done Block
-left v b o =
-    cond (eqb (o .answer .number) 0) (done (record { head = b .head; coefficients = in-file v (b .head) (o .coefs); pixels = o .pixels }))
-    (bad (o .answer .number))
+abbrev pub left : ℕ → Block → Outcome → Block
+left v b o = record { head = b .head; coefficients = in-file v (b .head) (o .coefs); pixels = o .pixels }
 
 unfoldable pub act : ℕ → Block → Done Block
-unfolding left
-act v b = left v b (call v b)
+unfolding done-by
+act v b = done-by (call v b) (left v b (call v b))
 
 -- ---- E1's and E11's program: "the file back with pixels done and coefficients as the call left them"; the refusal's line on standard error
 
@@ -46,19 +48,18 @@ unfolding form
 back v (done b) = done (tt, both (form v .write b) [])
 back v (bad k) = bad k
 
-unfoldable pub told-end : End → Written
+-- "standard error gets one line": of a refusal
+unfoldable pub said : End → List ℕ
 unfolding refused-line
-told-end here = nothing
-told-end (refused-at i k) = both [] (refused-line i k)
+said here = []
+said (refused-at i k) = refused-line i k
 
-unfoldable pub blocks : Task Block (Unit {0})
-unfolding form act back told-end number
+unfoldable pub blocks : Task (Unit {0})
+unfolding act back said number
 blocks = record {
-  known = known;
-  form = form;
   past = λ i. false;
   start = tt;
   opening = λ v. both (number .write v) [];
   act = λ v i s b. back v (act v b);
-  closing = λ s e. told-end e;
+  closing = λ s e. both [] (said e);
 }

@@ -4,18 +4,18 @@ use mathlib.Core.Bool.{Bool, true}
 use mathlib.Core.List.{List}
 use Prim.Native.Nat.{ℕ, _+_, _≤_}
 use lib.IntN.{ℤ}
-use lib.ListN.{length}
+use lib.ListN.{length, drop}
 use Rattle.whole.specs.Answers.{Answer}
+use Rattle.blockfile.specs.Inner.{block-of}
 use Rattle.blockfile.specs.Record.{Block, sized, announces, count}
 use Rattle.blockfile.specs.declared.record.Head.{Head}
 use Rattle.jobs.specs.Rows.{in-file}
 use Rattle.jobs.specs.Act.{call}
-use Rattle.jobs.specs.Task.{here, refused-at}
+use Rattle.blockfile.specs.File.{here, refused-at}
 use Rattle.jobs.specs.Steps.{Place, closed, number, falling, acting}
 use Rattle.jobs.specs.declared.step.Job.{Job}
-use Rattle.jobs.specs.declared.step.Turn.{Turn}
 use Rattle.jobs.specs.Jobs.{Mind, task-of}
-use Rattle.jobs.specs.Stepping.{Minds, Stepped, mind-after}
+use Rattle.jobs.specs.Stepping.{Minds, Io, Stepped, mind-after}
 
 -- ---- a record
 
@@ -24,9 +24,6 @@ pub record Ready (v : ℕ) (h : Head) (coefficients : List ℤ) : Type 0 where
   pub size : sized (h .w, h .h) ≡ true
   pub allowed : announces v (h .h) (h .announced) ≡ true
   pub counted : length coefficients ≡ count v h
-
-abbrev pub block-of : Head → List ℤ → List ℕ → Block
-block-of h cs ps = record { head = h; coefficients = cs; pixels = ps }
 
 -- and that its pixels were read too
 pub record Whole (v : ℕ) (h : Head) (coefficients : List ℤ) (pixels : List ℕ) : Type 0 where
@@ -43,26 +40,22 @@ pub record Acted (v : ℕ) (h : Head) (cs : List ℤ) (ps : List ℕ) (cs′ : L
 -- ---- a step
 
 -- a record of a file of version v, number i, is done, and `next` is the place after it
-abbrev pub DoneAt : Job → ℕ → ℕ → Block → ℕ → List ℕ → List ℕ → ℕ → List ℕ → ℕ → List ℕ → List ℕ → List ℕ → Turn → Type 0
-DoneAt j v i b next sums out put err told sums′ out′ err′ r =
-    (m : Mind j) (rest : List ℕ) → Minds j sums m
-    → let d = acting (task-of j) v i m rest (task-of j .act v i m b) in Stepped j d next out put err told out′ err′ r × Minds j sums′ (mind-after m d)
+pub record DoneAt (j : Job) (v i : ℕ) (b : Block) (next : ℕ) (sums sums′ : List ℕ) (x : Io) : Type 0 where
+  pub does : (m : Mind j) (s : List ℕ) → next ≤ length s → Minds j sums m
+      → let d = acting (task-of j) v i m (drop next s) (task-of j .act v i m b) in Stepped d s x × Minds j sums′ (mind-after m d)
 
 pub record Roomy (out : List ℕ) (put : ℕ) (err : List ℕ) (told : ℕ) : Type 0 where
   pub output : put + 10265 ≤ length out
   pub error : told + 47104 ≤ length err
 
 -- number i is refused by k
-abbrev pub Refused : Job → ℕ → ℕ → List ℕ → ℕ → List ℕ → ℕ → List ℕ → List ℕ → Turn → Type 0
-Refused j i k out put err told out′ err′ r =
-    (m : Mind j) (next : ℕ) → Stepped j (closed (task-of j .closing m (refused-at i k))) next out put err told out′ err′ r
+abbrev pub Refused : Job → ℕ → ℕ → Io → Type 0
+Refused j i k x = (m : Mind j) (s : List ℕ) → Stepped {S = Mind j} (closed (task-of j .closing m (refused-at i k))) s x
 
 -- reading number i was refused by k
-abbrev pub Fallen : Job → ℕ → Bool → ℕ → List ℕ → ℕ → List ℕ → ℕ → List ℕ → List ℕ → Turn → Type 0
-Fallen j k last i out put err told out′ err′ r =
-    (p : Place (Mind j)) → number p ≡ i → (next : ℕ) → Stepped j (falling (task-of j) last p k) next out put err told out′ err′ r
+abbrev pub Fallen : Job → ℕ → Bool → ℕ → Io → Type 0
+Fallen j k last i x = (p : Place (Mind j)) → number p ≡ i → (s : List ℕ) → Stepped (falling (task-of j) last p k) s x
 
 -- the file has ended
-abbrev pub Ended : Job → List ℕ → List ℕ → ℕ → List ℕ → ℕ → List ℕ → List ℕ → Turn → Type 0
-Ended j sums out put err told out′ err′ r =
-    (m : Mind j) → Minds j sums m → (next : ℕ) → Stepped j (closed (task-of j .closing m here)) next out put err told out′ err′ r
+abbrev pub Ended : Job → List ℕ → Io → Type 0
+Ended j sums x = (m : Mind j) → Minds j sums m → (s : List ℕ) → Stepped {S = Mind j} (closed (task-of j .closing m here)) s x

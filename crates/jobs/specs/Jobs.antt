@@ -1,6 +1,5 @@
 -- Which task each job is: E1 and E11, E14, E7.
 use mathlib.Core.List.{List}
-use Rattle.blockfile.specs.Record.{Block}
 use Rattle.tally.specs.Totals.{Tally}
 use Rattle.jobs.specs.Task.{Task}
 use Rattle.jobs.specs.Act.{blocks}
@@ -16,7 +15,7 @@ Mind Job.Salvage = Unit {0}
 Mind (Job.Totals most) = List Tally
 
 -- what each job is
-abbrev pub task-of : (j : Job) → Task Block (Mind j)
+abbrev pub task-of : (j : Job) → Task (Mind j)
 task-of Job.Blocks = blocks
 task-of Job.Salvage = salvage
 task-of (Job.Totals most) = totalling most

@@ -3,20 +3,17 @@
 use mathlib.Core.Bool.{false}
 use mathlib.Core.List.{[]}
 use Rattle.blockfile.specs.Form.{number}
-use Rattle.blockfile.specs.Record.{Block, form}
-use Rattle.blockfile.specs.File.{known}
+use Rattle.blockfile.specs.Record.{form}
 use Rattle.mend.specs.Mend.{mend, changes-of, lines}
 use Rattle.jobs.specs.Task.{both, done, Task}
-use Rattle.jobs.specs.Act.{told-end}
+use Rattle.jobs.specs.Act.{said}
 
-unfoldable pub salvage : Task Block (Unit {0})
-unfolding form lines told-end number
+unfoldable pub salvage : Task (Unit {0})
+unfolding form lines said number
 salvage = record {
-  known = known;
-  form = form;
   past = λ i. false;
   start = tt;
   opening = λ v. both (number .write v) [];
   act = λ v i s b. done (tt, both (form v .write (mend b)) (lines i (changes-of b)));
-  closing = λ s e. told-end e;
+  closing = λ s e. both [] (said e);
 }

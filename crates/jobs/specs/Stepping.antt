@@ -1,11 +1,11 @@
 -- What one step of a job gives: places of slices instead of lists of bytes.
 use mathlib.Core.Path.{_≡_}
 use mathlib.Core.Bool.{Bool, true, false, cond, _&&_}
-use mathlib.Core.List.{List, []}
-use Prim.Native.Nat.{ℕ, zero, suc, _+_, _-_, _≤_}
+use mathlib.Core.List.{List}
+use Prim.Native.Nat.{ℕ, zero, suc, _+_, _≤_}
 use lib.Dec.{leb}
 use lib.ListN.{length, drop}
-use lib.Seq.{sets}
+use Rattle.blockfile.specs.Inner.{Put}
 use Rattle.tally.specs.Totals.{totals}
 use Rattle.tally.specs.Inner.{sums-of, sane}
 use Rattle.jobs.specs.Task.{Written, nothing}
@@ -27,16 +27,11 @@ Minds Job.Blocks sums s = Unit {0}
 Minds Job.Salvage sums s = Unit {0}
 Minds (Job.Totals most) sums ts = sums ≡ sums-of (totals ts)
 
--- what a step writes, where it goes on, in a file of which version, and what is kept in mind after it
+-- what a step writes, and what is kept in mind after it
 abbrev pub written-in : {S : Type 0} → Step S → Written
 written-in (wrote w q rest) = w
 written-in wanted = nothing
 written-in (closed w) = w
-
-abbrev pub rest-of : {S : Type 0} → Step S → List ℕ
-rest-of (wrote w q rest) = rest
-rest-of wanted = []
-rest-of (closed w) = []
 
 abbrev pub version-of : {S : Type 0} → Place S → ℕ
 version-of outset = 0
@@ -51,27 +46,44 @@ mind-after m (wrote w q rest) = mind-at m q
 mind-after m wanted = m
 mind-after m (closed w) = m
 
--- `next` is the place after what was read; `put` and `told` are the places of both outputs
+-- `next` is the place after what was read; `end` and `last` are those after what was written
 abbrev pub turn-of : {S : Type 0} → ℕ → ℕ → ℕ → Step S → Turn
-turn-of next put told (wrote w q rest) = Turn.Wrote (version-of q) next (put + length (w .output)) (told + length (w .error))
-turn-of next put told wanted = Turn.More
-turn-of next put told (closed w) = Turn.Stop (put + length (w .output)) (told + length (w .error))
+turn-of next end last (wrote w q rest) = Turn.Wrote (version-of q) next end last
+turn-of next end last wanted = Turn.More
+turn-of next end last (closed w) = Turn.Stop end last
 
--- what a step writes is put at the places of both outputs, where it has room
-pub record Stepped (j : Job) (d : Step (Mind j)) (next : ℕ) (out : List ℕ) (put : ℕ) (err : List ℕ) (told : ℕ)
-    (out′ err′ : List ℕ) (r : Turn) : Type 0 where
-  pub output : out′ ≡ sets out put (written-in d .output)
-  pub error : err′ ≡ sets err told (written-in d .error)
-  pub answer : r ≡ turn-of next put told d
-  pub room : put + length (written-in d .output) ≤ length out
-  pub error-room : told + length (written-in d .error) ≤ length err
+abbrev pub LeftAt : {S : Type 0} → List ℕ → ℕ → Step S → Type 0
+LeftAt s next (wrote w q rest) = (rest ≡ drop next s) × (next ≤ length s)
+LeftAt s next wanted = Unit {0}
+LeftAt s next (closed w) = Unit {0}
+
+-- both outputs, the places where a step writes, what they hold after it, and its answer
+pub record Io : Type 0 where
+  pub out : List ℕ
+  pub put : ℕ
+  pub err : List ℕ
+  pub told : ℕ
+  pub out-after : List ℕ
+  pub err-after : List ℕ
+  pub answer : Turn
+
+abbrev pub io : List ℕ → ℕ → List ℕ → ℕ → List ℕ → List ℕ → Turn → Io
+io o p e t o′ e′ r = record { out = o; put = p; err = e; told = t; out-after = o′; err-after = e′; answer = r }
+
+-- what a step on bytes of s writes is put at the places of both outputs, where it has room
+pub record Stepped {S : Type 0} (d : Step S) (s : List ℕ) (x : Io) : Type 0 where
+  pub next : ℕ
+  pub end : ℕ
+  pub last : ℕ
+  pub output : Put (written-in d .output) (x .out) (x .put) (x .out-after) end
+  pub error : Put (written-in d .error) (x .err) (x .told) (x .err-after) last
+  pub left : LeftAt s next d
+  pub is : x .answer ≡ turn-of next end last d
 
 -- a step at a place of the file, on the bytes of s from `at` on, if the numbers are those of what is kept in mind there
-abbrev pub StepAt : (j : Job) → Place (Mind j) → List ℕ → ℕ → Bool → List ℕ → List ℕ → ℕ → List ℕ → ℕ → List ℕ → List ℕ → List ℕ → Turn → Type 0
-StepAt j p s at last sums out put err told sums′ out′ err′ r =
-    let d = step (task-of j) last p (drop at s) in
-    let m = mind (task-of j) p in
-    Minds j sums m → Stepped j d (length s - length (rest-of d)) out put err told out′ err′ r × Minds j sums′ (mind-after m d)
+pub record StepAt (j : Job) (p : Place (Mind j)) (s : List ℕ) (at : ℕ) (last : Bool) (sums sums′ : List ℕ) (x : Io) : Type 0 where
+  pub steps : let d = step (task-of j) last p (drop at s) in let m = mind (task-of j) p in
+      Minds j sums m → Stepped d s x × Minds j sums′ (mind-after m d)
 
 -- what stands at number i of a file of version v, where 0 is the first number
 abbrev pub place-at : {S : Type 0} → ℕ → ℕ → S → Place S
@@ -83,11 +95,11 @@ abbrev pub sane-for : Job → List ℕ → Bool
 sane-for j sums = cond (is-totals j) (sane sums) true
 
 -- A record takes 10,265 bytes at most; on standard error the line of a refusal takes 33, and those of 1,024 changes 46 each.
-abbrev pub roomy : Job → List ℕ → List ℕ → ℕ → List ℕ → ℕ → Bool
-roomy j sums out put err told = sane-for j sums && (leb (put + 10265) (length out) && leb (told + 47104) (length err))
+abbrev pub roomy : Job → List ℕ → Io → Bool
+roomy j sums x = sane-for j sums && (leb (x .put + 10265) (length (x .out)) && leb (x .told + 47104) (length (x .err)))
 
 -- where the room is short, that is the answer and nothing is done
-abbrev pub Turned : Bool → (j : Job) → Place (Mind j) → List ℕ → ℕ → Bool → List ℕ → List ℕ → ℕ → List ℕ → ℕ → List ℕ → List ℕ
-    → List ℕ → Turn → Type 0
-Turned true j p s at last sums out put err told sums′ out′ err′ r = StepAt j p s at last sums out put err told sums′ out′ err′ r
-Turned false j p s at last sums out put err told sums′ out′ err′ r = (sums′ ≡ sums) × ((out′ ≡ out) × ((err′ ≡ err) × (r ≡ Turn.Full)))
+abbrev pub Turned : Bool → (j : Job) → Place (Mind j) → List ℕ → ℕ → Bool → List ℕ → List ℕ → Io → Type 0
+Turned true j p s at last sums sums′ x = StepAt j p s at last sums sums′ x
+Turned false j p s at last sums sums′ x =
+    (sums′ ≡ sums) × ((x .out-after ≡ x .out) × ((x .err-after ≡ x .err) × (x .answer ≡ Turn.Full)))

@@ -5,8 +5,9 @@ use mathlib.Core.List.{List, [], _∷_}
 use Prim.Native.Nat.{ℕ, suc}
 use lib.Dec.{eqb}
 use Rattle.blockfile.specs.Read.{Read, got, refused}
-use Rattle.blockfile.specs.File.{first}
-use Rattle.jobs.specs.Task.{Written, Done, done, bad, End, here, refused-at, Task}
+use Rattle.blockfile.specs.Record.{Block, form}
+use Rattle.blockfile.specs.File.{End, here, refused-at, first, known}
+use Rattle.jobs.specs.Task.{Written, Done, done, bad, Task}
 
 -- before the first number; or before record i of a file of version v, with what is kept in mind
 pub data Place (S : Type 0) : Type 0 where
@@ -25,7 +26,7 @@ abbrev pub number : {S : Type 0} → Place S → ℕ
 number outset = 0
 number (before v i s) = i
 
-module _ {R S : Type 0} (t : Task R S) where
+module _ {S : Type 0} (t : Task S) where
   abbrev pub mind : Place S → S
   mind outset = t .start
   mind (before v i s) = s
@@ -47,13 +48,13 @@ module _ {R S : Type 0} (t : Task R S) where
     opened (got v rest) = wrote (t .opening v) (before v 1 (t .start)) rest
     opened (refused k) = falling outset k
 
-    unfoldable pub came : ℕ → ℕ → S → Read R → Step S
+    unfoldable pub came : ℕ → ℕ → S → Read Block → Step S
     unfolding acting falling
     came v i s (got r rest) = acting v i s rest (t .act v i s r)
     came v i s (refused k) = falling (before v i s) k
 
     unfoldable pub step : Place S → List ℕ → Step S
-    unfolding opened came first
-    step outset bs = opened (first (t .known) .read bs)
+    unfolding opened came first form
+    step outset bs = opened (first known .read bs)
     step (before v i s) [] = cond last (ending (before v i s) here) wanted
-    step (before v i s) (b ∷ bs) = cond (t .past i) (ending (before v i s) (refused-at i 22)) (came v i s (t .form v .read (b ∷ bs)))
+    step (before v i s) (b ∷ bs) = cond (t .past i) (ending (before v i s) (refused-at i 22)) (came v i s (form v .read (b ∷ bs)))

@@ -1,11 +1,11 @@
--- What a program makes of a block file. A task says which files it takes, what is done with a record, and what is written of each record
--- and at the end, on which stream. How a file is read, where a program stops, and how its input may arrive in pieces is said and proved
+-- What a program makes of a block file. A task says what is done with a record, and what is written of each record and at the end, on which
+-- stream. How a file is read, where a program stops, and how its input may arrive in pieces is said and proved
 -- once, for every task.
 use mathlib.Core.Bool.{Bool, cond}
 use mathlib.Core.List.{List, [], _∷_, _++_}
 use Prim.Native.Nat.{ℕ, suc}
-use Rattle.blockfile.specs.Form.{Form}
-use Rattle.blockfile.specs.File.{Records, all, before, File, unknown, file, read-file}
+use Rattle.blockfile.specs.Record.{Block}
+use Rattle.blockfile.specs.File.{End, here, refused-at, File, unknown, file, read-blocks}
 
 -- the bytes on standard output and on standard error
 pub record Written : Type 0 where
@@ -27,26 +27,18 @@ pub data Done (A : Type 0) : Type 0 where
   done : A → Done A
   bad : ℕ → Done A
 
--- how a file ends: here, or number i is refused by k (0 is the file's first number)
-pub data End : Type 0 where
-  here : End
-  refused-at : ℕ → ℕ → End
-
--- R is a record, S what the task keeps in mind from record to record
-pub record Task (R S : Type 0) : Type 0 where
-  -- which first numbers there are, and what records follow one
-  pub known : ℕ → Bool
-  pub form : ℕ → Form R
+-- S is what the task keeps in mind from record to record
+pub record Task (S : Type 0) : Type 0 where
   -- whether a record of this number is one too many: it is refused by 22 as soon as it begins
   pub past : ℕ → Bool
   pub start : S
   -- what is written of the first number v
   pub opening : ℕ → Written
   -- what is kept in mind and written of record i of a file of version v, or the number of its refusal
-  pub act : ℕ → ℕ → S → R → Done (S × Written)
+  pub act : ℕ → ℕ → S → Block → Done (S × Written)
   pub closing : S → End → Written
 
-module _ {R S : Type 0} (t : Task R S) where
+module _ {S : Type 0} (t : Task S) where
   -- number i begins, and w is what is written from it on
   unfoldable pub begun : ℕ → S → Written → Written
   begun i s w = cond (t .past i) (t .closing s (refused-at i 22)) w
@@ -56,23 +48,18 @@ module _ {R S : Type 0} (t : Task R S) where
   judged i s (bad k) go = t .closing s (refused-at i k)
 
   -- records of version v from number i on, and how the file ends after them
-  unfoldable pub told-on : ℕ → ℕ → S → List R → End → Written
+  unfoldable pub told : ℕ → ℕ → S → List Block → End → Written
   unfolding begun judged
-  told-on v i s [] here = t .closing s here
-  told-on v i s [] (refused-at j k) = begun i s (t .closing s (refused-at j k))
-  told-on v i s (r ∷ rs) end = begun i s (judged i s (t .act v i s r) (λ s. told-on v (suc i) s rs end))
+  told v i s [] here = t .closing s here
+  told v i s [] (refused-at j k) = begun i s (t .closing s (refused-at j k))
+  told v i s (b ∷ bs) end = begun i s (judged i s (t .act v i s b) (λ s. told v (suc i) s bs end))
 
-  unfoldable pub told : ℕ → ℕ → S → Records R → Written
-  unfolding told-on
-  told v i s (all rs) = told-on v i s rs here
-  told v i s (before rs j k) = told-on v i s rs (refused-at j k)
-
-  unfoldable pub told-file : File R → Written
+  unfoldable pub told-file : File → Written
   unfolding told
   told-file (unknown k) = t .closing (t .start) (refused-at 0 k)
-  told-file (file v rs) = ahead (t .opening v) (told v 1 (t .start) rs)
+  told-file (file v rs) = ahead (t .opening v) (told v 1 (t .start) (rs .0) (rs .1))
 
   -- what the program writes of a whole input
   unfoldable pub run : List ℕ → Written
-  unfolding told-file read-file
-  run bs = told-file (read-file (t .known) (t .form) bs)
+  unfolding told-file read-blocks
+  run bs = told-file (read-blocks bs)

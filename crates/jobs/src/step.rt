@@ -9,8 +9,9 @@ ghost use Rattle.blockfile.specs.File.{known};
 ghost use Rattle.jobs.specs.Steps.{outset, before};
 ghost use Rattle.jobs.specs.declared.step.Job.the-variants as Job;
 ghost use Rattle.tally.specs.Inner.{Sane};
-ghost use Rattle.jobs.specs.Inner.{Whole, block-of, Refused, Fallen, Ended, DoneAt, Roomy};
-ghost use Rattle.jobs.specs.Stepping.{is-totals, sane-for, StepAt, place-at, roomy, Turned};
+ghost use Rattle.blockfile.specs.Inner.{block-of};
+ghost use Rattle.jobs.specs.Inner.{Whole, Roomy, Refused, Fallen, Ended, DoneAt};
+ghost use Rattle.jobs.specs.Stepping.{is-totals, sane-for, io, StepAt, place-at, roomy, Turned};
 ghost use Rattle.jobs.specs.Jobs.{Mind, task-of};
 use crate::act::act;
 use blockfile::number;
@@ -78,7 +79,7 @@ fn refuse(
     told: usize,
 ) -> Turn
     requires { ⌜ Roomy (now output) put (now error) told ⌝ }
-    ensures { λ r. ⌜ Refused job «record» k (now (output .entry)) put (now (error .entry)) told (now (output .exit)) (now (error .exit)) r ⌝ }
+    ensures { λ r. ⌜ Refused job «record» k (io (now (output .entry)) put (now (error .entry)) told (now (output .exit)) (now (error .exit)) r) ⌝ }
 {
     if is_totals(job) {
         let end = refused_line(output, put, record, k);
@@ -100,8 +101,8 @@ fn fallen(
     told: usize,
 ) -> Turn
     requires { ⌜ Roomy (now output) put (now error) told ⌝ }
-    ensures { λ r. ⌜ Fallen job k «is_last» «record» (now (output .entry)) put (now (error .entry)) told
-        (now (output .exit)) (now (error .exit)) r ⌝ }
+    ensures { λ r. ⌜ Fallen job k «is_last» «record»
+        (io (now (output .entry)) put (now (error .entry)) told (now (output .exit)) (now (error .exit)) r) ⌝ }
 {
     if k == 15 {
         if !is_last {
@@ -114,7 +115,8 @@ fn fallen(
 // The file has ended.
 fn finish(job: Job, sums: &[u64], output: &mut [u8], put: usize, error: &[u8], told: usize) -> Turn
     requires { ⌜ (sane-for job (now sums) ≡ true) × Roomy (now output) put (now error) told ⌝ }
-    ensures { λ r. ⌜ Ended job (now (sums .entry)) (now (output .entry)) put (now (error .entry)) told (now (output .exit)) (now (error .entry)) r ⌝ }
+    ensures { λ r. ⌜ Ended job (now (sums .entry))
+        (io (now (output .entry)) put (now (error .entry)) told (now (output .exit)) (now (error .entry)) r) ⌝ }
 {
     if is_totals(job) {
         let end = put_report(sums, output, put);
@@ -153,8 +155,8 @@ fn begin(
     told: usize,
 ) -> Turn
     requires { ⌜ Roomy (now output) put (now error) told ⌝ }
-    ensures { λ r. ⌜ ((sums : List ℕ) → StepAt job outset (now (input .entry)) at «is_last» sums (now (output .entry)) put
-        (now (error .entry)) told sums (now (output .exit)) (now (error .exit)) r) ⌝ }
+    ensures { λ r. ⌜ ((sums : List ℕ) → StepAt job outset (now (input .entry)) at «is_last» sums sums
+        (io (now (output .entry)) put (now (error .entry)) told (now (output .exit)) (now (error .exit)) r)) ⌝ }
 {
     let first = read_number(input, at);
     let Number::Got { value, next } = first else {
@@ -199,8 +201,8 @@ fn call_block(
 ) -> Turn
     requires { ⌜ Whole version head (now coefficients) (now pixels) × Roomy (now output) put (now error) told ⌝ }
     ensures { λ r. ⌜ ((sums : List ℕ) → DoneAt Job.Blocks version «record»
-        (block-of head (now (coefficients .entry)) (now (pixels .entry))) next sums (now (output .entry)) put
-        (now (error .entry)) told sums (now (output .exit)) (now (error .exit)) r) ⌝ }
+        (block-of head (now (coefficients .entry)) (now (pixels .entry))) next sums sums
+        (io (now (output .entry)) put (now (error .entry)) told (now (output .exit)) (now (error .exit)) r)) ⌝ }
 {
     let answer = act(version, head, coefficients, pixels);
     let refusal = itx::number(answer);
@@ -231,8 +233,8 @@ fn mend_block(
 ) -> Turn
     requires { ⌜ Whole version head (now coefficients) (now pixels) × Roomy (now output) put (now error) told ⌝ }
     ensures { λ r. ⌜ ((sums : List ℕ) → DoneAt Job.Salvage version «record»
-        (block-of head (now (coefficients .entry)) (now (pixels .entry))) next sums (now (output .entry)) put
-        (now (error .entry)) told sums (now (output .exit)) (now (error .exit)) r) ⌝ }
+        (block-of head (now (coefficients .entry)) (now (pixels .entry))) next sums sums
+        (io (now (output .entry)) put (now (error .entry)) told (now (output .exit)) (now (error .exit)) r)) ⌝ }
 {
     let last = salvage(head, record, coefficients, error, told);
     let end = write_record(output, put, head, coefficients, pixels);
@@ -263,8 +265,8 @@ fn count_block(
     requires { ⌜ Whole version head (now coefficients) (now pixels)
         × (Sane (now sums) × ((length (now pixels) ≡ length (now before)) × Roomy (now output) put (now error) told)) ⌝ }
     ensures { λ r. ⌜ DoneAt (Job.Totals most) version «record»
-        (block-of head (now (coefficients .entry)) (now (pixels .entry))) next (now (sums .entry)) (now (output .entry)) put
-        (now (error .entry)) told (now (sums .exit)) (now (output .exit)) (now (error .exit)) r ⌝ }
+        (block-of head (now (coefficients .entry)) (now (pixels .entry))) next (now (sums .entry)) (now (sums .exit))
+        (io (now (output .entry)) put (now (error .entry)) told (now (output .exit)) (now (error .exit)) r) ⌝ }
 {
     keep(&*pixels, &mut *before);
     let answer = act(version, head, coefficients, &mut *pixels);
@@ -273,7 +275,7 @@ fn count_block(
         return refuse(Job::Totals(most), record, refusal, output, put, error, told);
     }
     let mark = itx::mark(answer);
-    add(sums, head.w, head.h, head.txtp, mark, before, pixels);
+    add(sums, head, mark, before, pixels);
     Turn::Wrote {
         version,
         next,
@@ -299,8 +301,7 @@ fn do_block(
 ) -> Turn
     requires { ⌜ Whole version head (now coefficients) (now pixels) × ((sane-for job (now sums) ≡ true) × Roomy (now output) put (now error) told) ⌝ }
     ensures { λ r. ⌜ DoneAt job version «record» (block-of head (now (coefficients .entry)) (now (pixels .entry))) next
-        (now (sums .entry)) (now (output .entry)) put (now (error .entry)) told (now (sums .exit)) (now (output .exit))
-        (now (error .exit)) r ⌝ }
+        (now (sums .entry)) (now (sums .exit)) (io (now (output .entry)) put (now (error .entry)) told (now (output .exit)) (now (error .exit)) r) ⌝ }
 {
     match job {
         Job::Blocks => call_block(
@@ -365,8 +366,8 @@ fn go_on(
 ) -> Turn
     requires { ⌜ (sane-for job (now sums) ≡ true) × Roomy (now output) put (now error) told ⌝ }
     ensures { λ r. ⌜ ((m : Mind job) → StepAt job (before version «record» m) (now (input .entry)) at «is_last»
-        (now (sums .entry)) (now (output .entry)) put (now (error .entry)) told (now (sums .exit)) (now (output .exit))
-        (now (error .exit)) r) ⌝ }
+        (now (sums .entry)) (now (sums .exit))
+        (io (now (output .entry)) put (now (error .entry)) told (now (output .exit)) (now (error .exit)) r)) ⌝ }
 {
     if at < input.len() {
         if is_past(job, record) {
@@ -445,10 +446,9 @@ pub fn step(
     error: &mut [u8],
     told: usize,
 ) -> Turn
-    ensures { λ r. ⌜ ((m : Mind job) → Turned
-        (roomy job (now (sums .entry)) (now (output .entry)) put (now (error .entry)) told) job
-        (place-at version «record» m) (now (input .entry)) at «is_last» (now (sums .entry)) (now (output .entry)) put
-        (now (error .entry)) told (now (sums .exit)) (now (output .exit)) (now (error .exit)) r) ⌝ }
+    ensures { λ r. ⌜ (let x = io (now (output .entry)) put (now (error .entry)) told (now (output .exit)) (now (error .exit)) r in
+        (m : Mind job) → Turned (roomy job (now (sums .entry)) x) job (place-at version «record» m) (now (input .entry)) at
+        «is_last» (now (sums .entry)) (now (sums .exit)) x) ⌝ }
 {
     if !has_numbers(job, &*sums) {
         return Turn::Full;

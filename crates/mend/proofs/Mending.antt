@@ -18,7 +18,8 @@ use Rattle.whole.proofs.Clips.{clip-inside, clip-abs}
 use Rattle.blockfile.specs.Inner.{Put}
 use Rattle.blockfile.proofs.Writing.{put-then, put-length}
 use Rattle.text.specs.Text.{line}
-use Rattle.mend.specs.Mend.{moved, Change, change, changes, change-line, lines}
+use Rattle.mend.specs.Mend.{moved, Change, changes, lines}
+use Rattle.mend.specs.Inner.{change, change-line}
 use Rattle.mend.specs.Inner.{reach, Mended}
 use Rattle.text.proofs.Texts.{decimal-short, signed-fits, signed-small, put-one}
 

@@ -1,15 +1,23 @@
 -- What the code of src/lib.rt answers.
 use mathlib.Core.Path.{_≡_}
-use mathlib.Core.List.{List}
+use mathlib.Core.List.{List, [], _∷_}
 use mathlib.Core.Option.{Option, none, some}
 use Prim.Native.Nat.{ℕ}
 use lib.IntN.{ℤ}
 use Rattle.whole.specs.Checks.{Check, accept, refuse}
 use Rattle.bitdepth.specs.Depths.{row-range}
 use Rattle.blockfile.specs.Inner.{Put}
-use Rattle.mend.specs.Mend.{mended, changes-in, lines}
+use Rattle.text.specs.Text.{decimal, signed, line}
+use Rattle.mend.specs.Mend.{moved, Change, mended, changes-in, lines}
 use Rattle.mend.specs.declared.RowRange.{RowRange}
 use Rattle.mend.specs.declared.RowRange.the-variants.{Of, None}
+
+abbrev pub change : ℕ → ℕ → ℤ → Change
+change m i v = record { place = i; old = v; new = moved m v }
+
+-- the line of a change
+abbrev pub change-line : ℕ → ℕ → ℤ → ℤ → List ℕ
+change-line i place old new = line (decimal i ∷ decimal place ∷ signed old ∷ signed new ∷ [])
 
 -- the m of a range, if no check refuses
 abbrev pub reach : Check ℕ → Option ℕ

@@ -37,13 +37,12 @@ pub record Change : Type 0 where
   pub old : ℤ
   pub new : ℤ
 
-abbrev pub change : ℕ → ℕ → ℤ → Change
-change m i v = record { place = i; old = v; new = moved m v }
-
 -- "each change exactly once, and no others": those of coefficients in the file's order, the first of which has place i
 abbrev pub changes : ℕ → ℕ → List ℤ → List Change
 changes m i [] = []
-changes m i (v ∷ vs) = cond (outside v (low m) (high m)) (change m i v ∷ changes m (suc i) vs) (changes m (suc i) vs)
+changes m i (v ∷ vs) =
+    let others = changes m (suc i) vs in
+    cond (outside v (low m) (high m)) (record { place = i; old = v; new = moved m v } ∷ others) others
 
 -- "each such coefficient, and nothing else, moved"; "copied as it stands"
 abbrev pub mended : Check ℕ → List ℤ → List ℤ
@@ -60,15 +59,11 @@ mend b = record { head = b .head; coefficients = mended (range (b .head)) (b .co
 abbrev pub changes-of : Block → List Change
 changes-of b = changes-in (range (b .head)) (b .coefficients)
 
--- "a line for each change: record number, place .., old value, new value, with single blanks"
-abbrev pub change-line : ℕ → ℕ → ℤ → ℤ → List ℕ
-change-line i place old new = line (decimal i ∷ decimal place ∷ signed old ∷ signed new ∷ [])
-
--- "Lines stand in file order": those of record i
+-- "a line for each change: record number, place .., old value, new value, with single blanks"; "Lines stand in file order": those of record i
 unfoldable pub lines : ℕ → List Change → List ℕ
 unfolding line decimal signed
 lines i [] = []
-lines i (c ∷ cs) = change-line i (c .place) (c .old) (c .new) ++ lines i cs
+lines i (c ∷ cs) = line (decimal i ∷ decimal (c .place) ∷ signed (c .old) ∷ signed (c .new) ∷ []) ++ lines i cs
 
 -- and of the records from number i on
 unfoldable pub all-lines : ℕ → List Block → List ℕ

@@ -6,7 +6,7 @@ ghost use Rattle.whole.specs.Checks.{accept};
 ghost use Rattle.bitdepth.specs.Depths as Depths;
 ghost use Rattle.blockfile.specs.Inner.{Put};
 ghost use Rattle.mend.specs.Mend as Mend;
-ghost use Rattle.mend.specs.Mend.{change-line};
+ghost use Rattle.mend.specs.Inner.{change-line};
 ghost use Rattle.mend.specs.Inner.{Mended, reach, reach-of};
 use bitdepth::Depth;
 use bitdepth::DepthCheck;

@@ -3,9 +3,10 @@ use mathlib.Core.Path.{_≡_, refl}
 use mathlib.Core.Bool.{false}
 use mathlib.Core.List.{[], _∷_, _++_}
 use lib.ListN.{replicate}
-use Rattle.tally.specs.Totals.{totals, report, tallied}
+use Rattle.tally.specs.Totals.{totals, report}
+use Rattle.tally.specs.Inner.{tallied}
 
-five-lines : report (totals (tallied 4 4 0 false (replicate 16 100) (replicate 16 102) ∷ []))
+five-lines : report (totals (tallied (record { w = 4; h = 4; txtp = 0; depth = 8; announced = 0 }) false (replicate 16 100) (replicate 16 102) ∷ []))
     ≡ (114 ∷ 101 ∷ 99 ∷ 111 ∷ 114 ∷ 100 ∷ 115 ∷ 32 ∷ 49 ∷ 10 ∷ [])
     ++ (109 ∷ 97 ∷ 114 ∷ 107 ∷ 101 ∷ 100 ∷ 32 ∷ 48 ∷ 10 ∷ [])
     ++ (99 ∷ 104 ∷ 97 ∷ 110 ∷ 103 ∷ 101 ∷ 32 ∷ 51 ∷ 50 ∷ 10 ∷ [])

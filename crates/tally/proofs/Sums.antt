@@ -25,8 +25,12 @@ use Rattle.itx.specs.Calls.{outcome}
 use Rattle.checks.proofs.Verdicts.{accepted-by}
 use Rattle.itx.proofs.Numbers.{num, answer-num, refusal-number}
 use Rattle.blockfile.specs.Form.{Each}
-use Rattle.tally.specs.Totals.{Tally, sum, greatest, one-if, moves, is-of, totals, _⊕_, all-cells, cells, cell-w, cell-h, cell-type, in-cell}
-use Rattle.tally.specs.Inner.{Countable, Rank, CellOf}
+use Rattle.tally.specs.Totals.{Tally, sum, greatest, moves, totals, _⊕_}
+use Rattle.tally.specs.Inner.{one-if, is-of, all-cells}
+use Rattle.tally.specs.Totals.{cell-w, cell-h, cell-type, in-cell}
+use Rattle.tally.specs.Inner.{cells}
+use Rattle.tally.specs.Inner.{Countable}
+use Rattle.tally.specs.Inner.{Rank, CellOf}
 
 pub sum-append : {A : Type 0} (f : A → ℕ) (xs ys : List A) → sum f (xs ++ ys) ≡ sum f xs + sum f ys
 sum-append f [] ys = sym (zero-add (sum f ys))
@@ -116,22 +120,23 @@ both-true true false e = absurd (subst T (sym e) tt)
 both-true false b e = absurd (subst T (sym e) tt)
 
 -- a record is of its own cell's combination and of no other's
-pub one-cell : (t : Tally) (k : ℕ) → CellOf (t .w) (t .h) (t .txtp) k → (j : ℕ) → j < cells
+pub one-cell : (t : Tally) (k : ℕ) → CellOf (t .head .w) (t .head .h) (t .head .txtp) k → (j : ℕ) → j < cells
     → is-of (cell-w j) (cell-h j) (cell-type j) t ≡ eqb j k
 one-cell t k c j h = go (eqb j k) refl (is-of (cell-w j) (cell-h j) (cell-type j) t) refl
   where
-    of-cell : is-of (cell-w j) (cell-h j) (cell-type j) t ≡ true → CellOf (t .w) (t .h) (t .txtp) j
+    of-cell : is-of (cell-w j) (cell-h j) (cell-type j) t ≡ true → CellOf (t .head .w) (t .head .h) (t .head .txtp) j
     of-cell e =
         let p = both-true _ _ e in let q = both-true _ _ (p .1) in record {
           inside = h;
-          w-is = sym (eqb-true (t .w) (cell-w j) (p .0));
-          h-is = sym (eqb-true (t .h) (cell-h j) (q .0));
-          type-is = sym (eqb-true (t .txtp) (cell-type j) (q .1));
+          w-is = sym (eqb-true (t .head .w) (cell-w j) (p .0));
+          h-is = sym (eqb-true (t .head .h) (cell-h j) (q .0));
+          type-is = sym (eqb-true (t .head .txtp) (cell-type j) (q .1));
         }
 
     own : j ≡ k → is-of (cell-w j) (cell-h j) (cell-type j) t ≡ true
     own e =
-        rw (e, eq-eqb (t .w) (cell-w k) (sym (c .w-is)), eq-eqb (t .h) (cell-h k) (sym (c .h-is)), eq-eqb (t .txtp) (cell-type k) (sym (c .type-is)))
+        let h = t .head in
+        rw (e, eq-eqb (h .w) (cell-w k) (sym (c .w-is)), eq-eqb (h .h) (cell-h k) (sym (c .h-is)), eq-eqb (h .txtp) (cell-type k) (sym (c .type-is)))
 
     go : (b : Bool) → eqb j k ≡ b → (o : Bool) → is-of (cell-w j) (cell-h j) (cell-type j) t ≡ o → o ≡ b
     go true e o f = sym f ∙ own (eqb-true j k e)
@@ -164,11 +169,11 @@ sum-one (suc n) f g (suc k) h e =
     )
 
 -- a record counts once in all of them
-pub counts-once : (t : Tally) → Countable (t .w) (t .h) (t .txtp)
+pub counts-once : (t : Tally) → Countable (t .head .w) (t .head .h) (t .head .txtp)
     → sum (λ k. one-if (is-of (cell-w k) (cell-h k) (cell-type k) t)) all-cells ≡ 1
 counts-once t c = let k = cell-of c in sum-one cells _ (λ j. j) (k .0) (k .1 .inside) (λ j h. ap one-if (one-cell t (k .0) (k .1) j h))
 
-pub counts-are : (ts : List Tally) → Each (λ t. Countable (t .w) (t .h) (t .txtp)) (length ts) ts
+pub counts-are : (ts : List Tally) → Each (λ t. Countable (t .head .w) (t .head .h) (t .head .txtp)) (length ts) ts
     → sum (in-cell (totals ts)) all-cells ≡ totals ts .records
 unfolding Each
 counts-are [] h = sum-none cells (λ k. 0) (λ k. k) (λ j l. refl)

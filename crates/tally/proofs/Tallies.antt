@@ -16,7 +16,8 @@ use Rattle.whole.proofs.Counts.{tab-at, tab-ext}
 use Rattle.blockfile.specs.Inner.{Put}
 use Rattle.blockfile.proofs.Writing.{put-then, leaves}
 use Rattle.text.specs.Text.{decimal, line}
-use Rattle.tally.specs.Totals.{Tally, sum, greatest, one-if, distance, distances, moves, Totals, totals, _⊕_, cells, cell-w, cell-h, cell-type}
+use Rattle.tally.specs.Totals.{Tally, sum, greatest, distances, moves, Totals, totals, _⊕_, cell-w, cell-h, cell-type}
+use Rattle.tally.specs.Inner.{one-if, distance, cells}
 use Rattle.tally.specs.Totals.{in-cell, cell-line, joined, headed, report}
 use Rattle.tally.specs.Inner.{sums-of}
 use Rattle.tally.specs.Inner.{Paired, Kept}
@@ -176,7 +177,7 @@ counting {s} size m d r k one small = go (part s (omega (arith, size)))
 -- ---- and the totals with it
 
 -- the cells of totals and of one record more
-module _ (a : Totals) (t : Tally) (k : ℕ) (c : CellOf (t .w) (t .h) (t .txtp) k) where
+module _ (a : Totals) (t : Tally) (k : ℕ) (c : CellOf (t .head .w) (t .head .h) (t .head .txtp) k) where
   abbrev after : ℕ → ℕ
   after = in-cell (a ⊕ totals (t ∷ []))
 
@@ -204,8 +205,8 @@ module _ (a : Totals) (t : Tally) (k : ℕ) (c : CellOf (t .w) (t .h) (t .txtp) 
       ∷ cells-after i)
 
 -- the code's r is the greater
-pub totals-more : {s : List ℕ} (t : Tally) {m d l r k : ℕ} → CellOf (t .w) (t .h) (t .txtp) k → m ≡ one-if (t .mark) → d ≡ sum (λ d. d) (moves t)
-    → l ≡ greatest (λ d. d) (moves t) → r ≡ max (getD (with-change s m d) 3 0) l
+pub totals-more : {s : List ℕ} (t : Tally) {m d l r k : ℕ} → CellOf (t .head .w) (t .head .h) (t .head .txtp) k
+    → m ≡ one-if (t .mark) → d ≡ sum (λ d. d) (moves t) → l ≡ greatest (λ d. d) (moves t) → r ≡ max (getD (with-change s m d) 3 0) l
     → (ts : List Tally) → s ≡ sums-of (totals ts) → with-cell s m d r k ≡ sums-of (totals (ts ++ (t ∷ [])))
 unfolding sums-of
 totals-more {s} t {m} {d} {l} {r} {k} c p q g e ts is =

@@ -4,11 +4,36 @@ use mathlib.Core.List.{List, [], _∷_, _++_}
 use Prim.Native.Nat.{ℕ, _+_, _*_, _^_, _≤_, _<_, _-_}
 use lib.ListN.{getD, length}
 use Rattle.whole.specs.Lists.{tab}
-use Rattle.tally.specs.Totals.{sum, greatest, cells, cell-w, cell-h, cell-type, cell-line, joined, Tally, Totals, in-cell, moves, totals}
+use Rattle.tally.specs.Totals.{sum, greatest, cell-w, cell-h, cell-type, cell-line, joined, Tally, Totals, in-cell, moves, totals}
 use Rattle.tally.specs.declared.Moved.{Moved}
-use mathlib.Core.Bool.{Bool, true, _&&_}
+use mathlib.Core.Bool.{Bool, true, cond, _&&_}
 use lib.Dec.{eqb, ltb}
+use Rattle.blockfile.specs.declared.record.Head.{Head}
 use Rattle.levels.specs.Sides.{len, side}
+
+-- ---- names for parts of the definitions
+
+abbrev pub one-if : Bool → ℕ
+one-if t = cond t 1 0
+
+abbrev pub distance : ℕ → ℕ → ℕ
+distance a b = (a - b) + (b - a)
+
+-- whether a record has this combination
+abbrev pub is-of : ℕ → ℕ → ℕ → Tally → Bool
+is-of w h txtp t = eqb (t .head .w) w && (eqb (t .head .h) h && eqb (t .head .txtp) txtp)
+
+abbrev pub tallied : Head → Bool → List ℕ → List ℕ → Tally
+tallied head mark before after = record { head = head; mark = mark; before = before; after = after }
+
+abbrev pub cells : ℕ
+cells = 272
+
+-- all of them, in order
+abbrev pub all-cells : List ℕ
+all-cells = tab cells (λ k. k)
+
+-- ---- what the functions ask and give
 
 -- the lines of the first n cells, as the numbers s have their counts
 unfoldable pub cell-lines : List ℕ → ℕ → List ℕ

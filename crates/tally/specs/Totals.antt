@@ -6,18 +6,21 @@ use lib.Dec.{eqb}
 use Rattle.whole.specs.Lists.{tab}
 use Rattle.itx.specs.Calls.{Outcome}
 use Rattle.blockfile.specs.Record.{Block}
+use Rattle.blockfile.specs.declared.record.Head.{Head}
 use Rattle.text.specs.Text.{decimal, line}
 
--- what E7 counts of a record: "w, h, type", "the mark", and its pixels "before and after"
+-- What E7 counts of a record: "w, h, type", "the mark", and its pixels "before and after"
 pub record Tally : Type 0 where
-  pub w : ℕ
-  pub h : ℕ
-  pub txtp : ℕ
+  pub head : Head
   pub mark : Bool
   pub before : List ℕ
   pub after : List ℕ
 
--- ---- a sum and a greatest over a list
+-- of one that was done: its pixels as the file has them, and as the call leaves them
+abbrev pub tally : Block → Outcome → Tally
+tally b o = record { head = b .head; mark = o .answer .mark; before = b .pixels; after = o .pixels }
+
+-- ---- the totals
 
 -- "their number", "how many", "the sum over all pixels"
 abbrev pub sum : {A : Type 0} → (A → ℕ) → List A → ℕ
@@ -29,31 +32,17 @@ abbrev pub greatest : {A : Type 0} → (A → ℕ) → List A → ℕ
 greatest f [] = 0
 greatest f (x ∷ xs) = max (f x) (greatest f xs)
 
--- "how many had the mark" is a sum of these
-abbrev pub one-if : Bool → ℕ
-one-if t = cond t 1 0
-
--- "the distance between before and after"
-abbrev pub distance : ℕ → ℕ → ℕ
-distance a b = (a - b) + (b - a)
-
--- "over all pixels"
+-- "over all pixels .. the distance between before and after"
 abbrev pub distances : List ℕ → List ℕ → List ℕ
 distances [] bs = []
 distances (a ∷ xs) [] = []
-distances (a ∷ xs) (b ∷ bs) = distance a b ∷ distances xs bs
-
--- ---- the totals
+distances (a ∷ xs) (b ∷ bs) = ((a - b) + (b - a)) ∷ distances xs bs
 
 -- a record's distances
 abbrev pub moves : Tally → List ℕ
 moves t = distances (t .before) (t .after)
 
--- "w, h, type and count for each combination met": whether a record has this one
-abbrev pub is-of : ℕ → ℕ → ℕ → Tally → Bool
-is-of w h txtp t = eqb (t .w) w && (eqb (t .h) h && eqb (t .txtp) txtp)
-
--- "records", "marked", "change", "largest", and the count of each combination
+-- "records", "marked", "change", "largest", and the count of each combination of w, h and type
 pub record Totals : Type 0 where
   pub records : ℕ
   pub marked : ℕ
@@ -65,10 +54,10 @@ pub record Totals : Type 0 where
 abbrev pub totals : List Tally → Totals
 totals ts = record {
   records = sum (λ t. 1) ts;
-  marked = sum (λ t. one-if (t .mark)) ts;
+  marked = sum (λ t. cond (t .mark) 1 0) ts;
   change = sum (λ t. sum (λ d. d) (moves t)) ts;
   largest = greatest (λ t. greatest (λ d. d) (moves t)) ts;
-  met = λ w h txtp. sum (λ t. one-if (is-of w h txtp t)) ts;
+  met = λ w h txtp. sum (λ t. cond (eqb (t .head .w) w && (eqb (t .head .h) h && eqb (t .head .txtp) txtp)) 1 0) ts;
 }
 
 -- "For one file's records followed by another's, the counts and sums add and the greatest is the greater."
@@ -84,10 +73,7 @@ a ⊕ b = record {
 infixl 6 _⊕_
 -- ---- what is printed
 
--- "rising by w, then h, then type": the combinations in this order are the cells of a table, 17 types for each of 4 heights for each of 4 widths
-abbrev pub cells : ℕ
-cells = 272
-
+-- "rising by w, then h, then type": the combinations in this order are the 272 cells of a table, 17 types for each of 4 heights for each of 4 widths
 abbrev pub cell-w : ℕ → ℕ
 cell-w k = 4 * 2 ^ (k / 68)
 
@@ -96,10 +82,6 @@ cell-h k = 4 * 2 ^ (k / 17 % 4)
 
 abbrev pub cell-type : ℕ → ℕ
 cell-type k = k % 17
-
--- all of them, in order
-abbrev pub all-cells : List ℕ
-all-cells = tab cells (λ k. k)
 
 -- the count of cell k's combination
 abbrev pub in-cell : Totals → ℕ → ℕ
@@ -115,37 +97,16 @@ abbrev pub joined : List (List ℕ) → List ℕ
 joined [] = []
 joined (l ∷ ls) = l ++ joined ls
 
--- "records", "marked", "change", "largest"
-abbrev pub word-records : List ℕ
-word-records = 114 ∷ 101 ∷ 99 ∷ 111 ∷ 114 ∷ 100 ∷ 115 ∷ []
-
-abbrev pub word-marked : List ℕ
-word-marked = 109 ∷ 97 ∷ 114 ∷ 107 ∷ 101 ∷ 100 ∷ []
-
-abbrev pub word-change : List ℕ
-word-change = 99 ∷ 104 ∷ 97 ∷ 110 ∷ 103 ∷ 101 ∷ []
-
-abbrev pub word-largest : List ℕ
-word-largest = 108 ∷ 97 ∷ 114 ∷ 103 ∷ 101 ∷ 115 ∷ 116 ∷ []
-
 -- "print, one to a line: "records" and their number, "marked" and how many had the mark, "change" and the sum .., "largest" and the greatest":
 -- these four, and what comes after them
 abbrev pub headed : ℕ → ℕ → ℕ → ℕ → List ℕ → List ℕ
 headed records marked change largest others =
-    line (word-records ∷ decimal records ∷ [])
-    ++ (line (word-marked ∷ decimal marked ∷ [])
-    ++ (line (word-change ∷ decimal change ∷ []) ++ (line (word-largest ∷ decimal largest ∷ []) ++ others)))
+    line ((114 ∷ 101 ∷ 99 ∷ 111 ∷ 114 ∷ 100 ∷ 115 ∷ []) ∷ decimal records ∷ [])
+    ++ (line ((109 ∷ 97 ∷ 114 ∷ 107 ∷ 101 ∷ 100 ∷ []) ∷ decimal marked ∷ [])
+    ++ (line ((99 ∷ 104 ∷ 97 ∷ 110 ∷ 103 ∷ 101 ∷ []) ∷ decimal change ∷ [])
+    ++ (line ((108 ∷ 97 ∷ 114 ∷ 103 ∷ 101 ∷ 115 ∷ 116 ∷ []) ∷ decimal largest ∷ []) ++ others)))
 
 -- "Then come lines of w, h, type and count for each combination met"
 unfoldable pub report : Totals → List ℕ
 unfolding line decimal cell-line
-report t = headed (t .records) (t .marked) (t .change) (t .largest) (joined (tab cells (λ k. cell-line k (in-cell t k))))
-
--- ---- what is counted
-
-abbrev pub tallied : ℕ → ℕ → ℕ → Bool → List ℕ → List ℕ → Tally
-tallied w h txtp mark before after = record { w = w; h = h; txtp = txtp; mark = mark; before = before; after = after }
-
--- a record that was done: its pixels as the file has them, and as the call leaves them
-abbrev pub tally : Block → Outcome → Tally
-tally b o = tallied (b .head .w) (b .head .h) (b .head .txtp) (o .answer .mark) (b .pixels) (o .pixels)
+report t = headed (t .records) (t .marked) (t .change) (t .largest) (joined (tab 272 (λ k. cell-line k (in-cell t k))))

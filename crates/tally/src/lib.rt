@@ -7,10 +7,10 @@ ghost use Rattle.levels.specs.Sides.{len, side};
 ghost use Rattle.blockfile.specs.Inner.{Put};
 ghost use Rattle.text.specs.Text.{decimal, line};
 ghost use Rattle.tally.specs.Totals as Totals;
-ghost use Rattle.tally.specs.Inner.{Added, Countable, Paired, Sane};
-ghost use Rattle.tally.specs.Totals.{cell-line, cells, distances, one-if, report, tallied};
-ghost use Rattle.tally.specs.Inner.{sane, sums-of};
-ghost use Rattle.tally.specs.Inner.{CellOf, Measured, Rank, cell-lines};
+ghost use Rattle.tally.specs.Totals.{cell-line, distances, report};
+ghost use Rattle.tally.specs.Inner as Inner;
+ghost use Rattle.tally.specs.Inner.{one-if, cells, sane, sums-of, cell-lines, tallied, CellOf, Measured, Rank, Added, Countable, Paired, Sane};
+use blockfile::record::Head;
 use text::put_bytes;
 use text::put_decimal;
 
@@ -42,7 +42,7 @@ fn cell(w: u32, h: u32, txtp: u32) -> usize
 }
 
 fn distance(a: u16, b: u16) -> u64
-    ensures { λ r. ⌜ (r ≡ Totals.distance a b) × (r ≤ 65535) ⌝ }
+    ensures { λ r. ⌜ (r ≡ Inner.distance a b) × (r ≤ 65535) ⌝ }
 {
     if a < b {
         return (b - a) as u64;
@@ -116,13 +116,13 @@ pub fn keep(pixels: &[u16], copy: &mut [u16])
 }
 
 // Counts one record more.
-pub fn add(sums: &mut [u64], w: u32, h: u32, txtp: u32, mark: bool, before: &[u16], after: &[u16])
+pub fn add(sums: &mut [u64], head: Head, mark: bool, before: &[u16], after: &[u16])
     requires { ⌜ Sane (now sums) ⌝ }
-    requires { ⌜ Countable w h txtp ⌝ }
+    requires { ⌜ Countable (head .w) (head .h) (head .txtp) ⌝ }
     requires { ⌜ Paired (now before) (now after) ⌝ }
-    ensures { λ _. ⌜ Added (now (sums .entry)) (now (sums .exit)) (tallied w h txtp mark (now (before .entry)) (now (after .entry))) ⌝ }
+    ensures { λ _. ⌜ Added (now (sums .entry)) (now (sums .exit)) (tallied head mark (now (before .entry)) (now (after .entry))) ⌝ }
 {
-    let k = cell(w, h, txtp);
+    let k = cell(head.w, head.h, head.txtp);
     let moved = change(before, after);
     sums[0] += 1;
     sums[1] += once(mark);

@@ -25,11 +25,7 @@ line [] = 10 ∷ []
 line (w ∷ []) = w ++ 10 ∷ []
 line (w ∷ u ∷ us) = w ++ 32 ∷ line (u ∷ us)
 
--- "refused"
-abbrev pub refused : List ℕ
-refused = 114 ∷ 101 ∷ 102 ∷ 117 ∷ 115 ∷ 101 ∷ 100 ∷ []
-
 -- "one line, parted by single blanks: "refused", the record's number .. and the refusal's number" (E1)
 unfoldable pub refused-line : ℕ → ℕ → List ℕ
 unfolding line decimal
-refused-line i k = line (refused ∷ decimal i ∷ decimal k ∷ [])
+refused-line i k = line ((114 ∷ 101 ∷ 102 ∷ 117 ∷ 115 ∷ 101 ∷ 100 ∷ []) ∷ decimal i ∷ decimal k ∷ [])

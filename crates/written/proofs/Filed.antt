@@ -4,7 +4,6 @@ use mathlib.Core.Path.{_≡_, refl, sym, ap, _∙_, subst}
 use mathlib.Core.Bool.{Bool, true, false, cond}
 use mathlib.Core.List.{List, [], _∷_, map}
 use Prim.Native.Nat.{ℕ, zero, suc, _*_, _≤_}
-use native.Mathlib.Nat.{le-refl}
 use native.Mathlib.Omega.{arith}
 use lib.Dec.{eqb}
 use lib.IntN.{ℤ, pos}
@@ -13,67 +12,46 @@ use mir.Syntax.{w32}
 use mir.Val.{SFits}
 use Rattle.whole.specs.Lists.{at}
 use Rattle.demands.proofs.Outcomes.{coefs-each, coefs-length, pixels-most, pixels-length}
-use Rattle.blockfile.specs.Read.{Read, got, refused}
 use Rattle.blockfile.specs.Form.{number, write-each, Each}
 use Rattle.blockfile.specs.Record.{Block, area, count, form, Plain}
 use Rattle.blockfile.specs.declared.record.Head.{Head}
-use Rattle.blockfile.specs.File.{Records, all, before, after, records, File, unknown, file, first, opened, read-file, write-file, known}
-use Rattle.blockfile.specs.File.{read-blocks, write-blocks}
+use Rattle.blockfile.specs.File.{End, here, refused-at, Records, File, unknown, file, read-blocks, write-blocks}
 use Rattle.blockfile.proofs.Forms.{each-map, each-length}
-use Rattle.blockfile.proofs.Records.{form-lawful, some-form, plain}
-use Rattle.blockfile.proofs.Files.{records-stop, first-lawful, blocks-back, blocks-only}
+use Rattle.blockfile.proofs.Records.{plain}
+use Rattle.blockfile.proofs.Files.{ReadAs, reads, blocks-back, blocks-only}
 use Rattle.jobs.specs.Rows.{spread, gathered, buffered, in-file}
-use Rattle.text.specs.Text.{refused-line}
-use Rattle.jobs.specs.Task.{Written, both, ahead, Done, done, bad, End, here, refused-at, begun, judged, told-on, told, told-file, run}
-use Rattle.jobs.specs.Act.{call-for, given, call, left, act, back, told-end, blocks}
-use Rattle.written.specs.Shown.{judged-block, acted-on, acted-file, shown, shown-file}
-use Rattle.written.specs.Rewrite.{as-one, listed, pixels-of, pictures, SamePixels}
+use Rattle.jobs.specs.Task.{Written, both, ahead, Done, done, bad, begun, judged, told, told-file, run}
+use Rattle.jobs.specs.Act.{call-for, given, call, done-by, act, back, said, blocks}
+use Rattle.written.specs.Shown.{judged-block, acted-on, shown, shown-file}
+use Rattle.written.specs.Rewrite.{as-one, SamePixels}
 use Rattle.written.proofs.Versions.{each-at, each-tab, zero-fits, fits-at, spread-fits, one-plain, all-mapped, same-pictures}
 
 -- ---- the run
 
 -- what is written after the first number
-later : ℕ → Records Block → Written
-later v (all cs) = both (write-each (form v) cs) []
-later v (before cs i k) = both (write-each (form v) cs) (refused-line i k)
-
-end-of : End → Records Block
-end-of here = all []
-end-of (refused-at j k) = before [] j k
-
-later-after : (v : ℕ) (b : Block) (m : Records Block) → ahead (both (form v .write b) []) (later v m) ≡ later v (after b m)
-unfolding later after write-each
-later-after v b (all cs) = refl
-later-after v b (before cs i k) = refl
+abbrev later : ℕ → Records Block → Written
+later v m = both (write-each (form v) (m .0)) (said (m .1))
 
 told-next : (v i : ℕ) (d : Done Block) (m : Records Block) {w : Written} → w ≡ later v m
     → judged blocks i tt (back v d) (λ s. w) ≡ later v (judged-block i d m)
-unfolding judged back blocks told-end judged-block later write-each
-told-next v i (done b) m e = ap (ahead (both (form v .write b) [])) e ∙ later-after v b m
+unfolding judged back blocks judged-block write-each said
+told-next v i (done b) m e = ap (ahead (both (form v .write b) [])) e
 told-next v i (bad k) m e = refl
 
-told-on-is : (v i : ℕ) (bs : List Block) (e : End) → told-on blocks v i tt bs e ≡ later v (acted-on v i bs (end-of e))
-unfolding told-on begun blocks told-end later end-of write-each acted-on
-told-on-is v i [] here = refl
-told-on-is v i [] (refused-at j k) = refl
-told-on-is v i (b ∷ bs) e = told-next v i (act v b) (acted-on v (suc i) bs (end-of e)) (told-on-is v (suc i) bs e)
-
-shown-is : (v : ℕ) (m : Records Block) → ahead (both (number .write v) []) (later v m) ≡ shown v m
-unfolding later shown write-blocks write-file
-shown-is v (all cs) = refl
-shown-is v (before cs i k) = refl
-
-told-file-is : (f : File Block) → told-file blocks f ≡ shown-file f
-unfolding told-file told shown-file blocks told-end end-of
-told-file-is (unknown k) = refl
-told-file-is (file v (all bs)) = ap (ahead (both (number .write v) [])) (told-on-is v 1 bs here) ∙ shown-is v (acted-on v 1 bs (all []))
-told-file-is (file v (before bs j k)) =
-    ap (ahead (both (number .write v) [])) (told-on-is v 1 bs (refused-at j k)) ∙ shown-is v (acted-on v 1 bs (before [] j k))
+told-is : (v i : ℕ) (bs : List Block) (e : End) → told blocks v i tt bs e ≡ later v (acted-on v i bs e)
+unfolding told begun blocks write-each acted-on
+told-is v i [] here = refl
+told-is v i [] (refused-at j k) = refl
+told-is v i (b ∷ bs) e = told-next v i (act v b) (acted-on v (suc i) bs e) (told-is v (suc i) bs e)
 
 -- of every input
 pub blocks-run : (xs : List ℕ) → run blocks xs ≡ shown-file (read-blocks xs)
-unfolding run blocks read-blocks
-blocks-run xs = told-file-is (read-blocks xs)
+unfolding run told-file shown-file shown blocks said write-blocks
+blocks-run xs = go (read-blocks xs)
+  where
+    go : (f : File) → told-file blocks f ≡ shown-file f
+    go (unknown k) = refl
+    go (file v rs) = ap (ahead (both (number .write v) [])) (told-is v 1 (rs .0) (rs .1))
 
 -- ---- what is left of a record can stand in a file
 
@@ -108,7 +86,7 @@ done-is false x y k e = let z : _≡_ {A = ℕ} 0 1 = cc in let f : ⊥ = omega 
 
 -- its pixels are at most 65535 and its coefficients have 32 bits, as before, and there are as many
 pub act-plain : (v : ℕ) (b c : Block) → Plain v b → act v b ≡ done c → Plain v c
-unfolding act left
+unfolding act done-by
 act-plain v b c p e =
     let h = b .head in let k = call-for v h in let g = given v b in let fit = buffer-fits v b p in let n = area h in
     subst (Plain v) (done-is (eqb (call v b .answer .number) 0) _ c _ e) (record {
@@ -125,95 +103,50 @@ act-plain v b c p e =
 
 -- ---- so the output can be read
 
-abbrev Held : ℕ → Records Block → Type 0
-Held v m = Each (Plain v) (length (listed m)) (listed m)
-
-held-after : (v : ℕ) (c : Block) (m : Records Block) → Plain v c → Held v m → Held v (after c m)
-unfolding after Each
-held-after v c (all cs) p h = (p, h)
-held-after v c (before cs i k) p h = (p, h)
-
-held-acted : (v i : ℕ) (bs : List Block) (end : Records Block) → Each (Plain v) (length bs) bs → Held v end → Held v (acted-on v i bs end)
+held-acted : (v i : ℕ) (bs : List Block) (end : End) → Each (Plain v) (length bs) bs
+    → let cs = acted-on v i bs end .0 in Each (Plain v) (length cs) cs
 unfolding acted-on judged-block Each
-held-acted v i [] end h g = g
-held-acted v i (b ∷ bs) end h g = go (act v b) refl (held-acted v (suc i) bs end (h .1) g)
+held-acted v i [] end h = tt
+held-acted v i (b ∷ bs) end h = go (act v b) refl (held-acted v (suc i) bs end (h .1))
   where
-    go : (d : Done Block) → act v b ≡ d → Held v (acted-on v (suc i) bs end) → Held v (judged-block i d (acted-on v (suc i) bs end))
-    go (done c) e k = held-after v c (acted-on v (suc i) bs end) (act-plain v b c (h .0) e) k
+    go : (d : Done Block) → act v b ≡ d → (let cs = acted-on v (suc i) bs end .0 in Each (Plain v) (length cs) cs)
+        → let cs = judged-block i d (acted-on v (suc i) bs end) .0 in Each (Plain v) (length cs) cs
+    go (done c) e k = (act-plain v b c (h .0) e, k)
     go (bad n) e k = tt
-
--- what is known of a file that was read, to its end or up to a refusal
-file-read : (xs : List ℕ) (v : ℕ) (rs : Records Block) → read-blocks xs ≡ file v rs → (known v ≡ true) × Held v rs
-unfolding read-blocks read-file opened records
-file-read xs v (all bs) e = let r = blocks-only xs v bs e in (r .0, r .2)
-file-read xs v (before bs j k) e = go (first known .read xs) refl e
-  where
-    go : (r : Read ℕ) → first known .read xs ≡ r → opened known form r ≡ file v (before bs j k) → (known v ≡ true) × Held v (before bs j k)
-    go (got u rest) q e =
-        let uv : u ≡ v = cc in let rs : records (form u) 1 rest ≡ before bs j k = cc in
-        let one = first-lawful known .only xs v rest (q ∙ ap (λ (w : ℕ). got w rest) uv) in
-        let is = ap (λ (w : ℕ). records (form w) 1 rest) (sym uv) ∙ rs in
-        let stop = records-stop (form-lawful v) (some-form v) (length rest) 1 rest bs j k (le-refl _) is in
-        (one .1 .1, each-map (plain v) (length bs) bs (stop .writable))
-    go (refused n) q e = let z : _≡_ {A = ℕ} 0 1 = cc in let f : ⊥ = omega arith in absurd f
-
-held-file : (v : ℕ) (rs : Records Block) → Held v rs → Held v (acted-file v rs)
-unfolding Each
-held-file v (all bs) h = held-acted v 1 bs (all []) h tt
-held-file v (before bs j k) h = held-acted v 1 bs (before [] j k) h tt
-
-shown-output : (v : ℕ) (m : Records Block) → shown v m .output ≡ write-blocks v (listed m)
-unfolding shown
-shown-output v (all cs) = refl
-shown-output v (before cs i k) = refl
 
 module _ (xs : List ℕ) (v : ℕ) (rs : Records Block) (e : read-blocks xs ≡ file v rs) where
   -- the run of a file whose first number is known
-  pub shown-run : run blocks xs ≡ shown v (acted-file v rs)
+  pub shown-run : run blocks xs ≡ shown v (acted-on v 1 (rs .0) (rs .1))
   unfolding shown-file
   shown-run = blocks-run xs ∙ ap shown-file e
 
   -- its output is a file of that version, of the records that are left
-  pub output-reads : read-blocks (run blocks xs .output) ≡ file v (all (listed (acted-file v rs)))
+  pub output-reads : read-blocks (run blocks xs .output) ≡ file v (acted-on v 1 (rs .0) (rs .1) .0, here)
+  unfolding shown
   output-reads =
-      let r = file-read xs v rs e in let m = acted-file v rs in
-      ap (λ (w : Written). read-blocks (w .output)) shown-run ∙ ap read-blocks (shown-output v m)
-      ∙ blocks-back v (listed m) (r .0) (held-file v rs (r .1))
+      let f : ReadAs xs (file v rs) = subst (ReadAs xs) e (reads xs) in
+      let plain-blocks = each-map (plain v) (length (rs .0)) (rs .0) (f .1 .1 .1 .writable) in
+      ap (λ (w : Written). read-blocks (w .output)) shown-run ∙ blocks-back v _ (f .0) (held-acted v 1 (rs .0) (rs .1) plain-blocks)
 
 -- ---- E11: "A file of version 2, rewritten as version 1 with eob 1, gives the same pixels"
 
--- standard error goes by where the records end, not by the records
-said : {R : Type 0} → Records R → List ℕ
-said (all rs) = []
-said (before rs i k) = refused-line i k
-
-shown-error : (v : ℕ) (m : Records Block) → shown v m .error ≡ said (pictures m)
-unfolding shown said
-shown-error v (all cs) = refl
-shown-error v (before cs i k) = refl
-
-listed-pictures : (m : Records Block) → listed (pictures m) ≡ pixels-of (listed m)
-listed-pictures (all cs) = refl
-listed-pictures (before cs i k) = refl
-
 -- The file rewritten is a file of version 1. Both runs leave the same pixels and say the same on standard error: they stop at the same record by the
 -- same number, if they stop (`same-pictures` says it of the numbers).
-pub rewritten-run : (xs : List ℕ) (bs : List Block) → read-blocks xs ≡ file 2 (all bs)
+pub rewritten-run : (xs : List ℕ) (bs : List Block) → read-blocks xs ≡ file 2 (bs, here)
     → let ys = write-blocks 1 (map as-one bs) in
-    (read-blocks ys ≡ file 1 (all (map as-one bs))) × SamePixels 2 1 (run blocks xs) (run blocks ys)
+    (read-blocks ys ≡ file 1 (map as-one bs, here)) × SamePixels 2 1 (run blocks xs) (run blocks ys)
+unfolding shown
 rewritten-run xs bs e =
-    let ys = write-blocks 1 (map as-one bs) in let plain-blocks = blocks-only xs 2 bs e .2 in
-    let is : read-blocks ys ≡ file 1 (all (map as-one bs)) = blocks-back 1 (map as-one bs) refl (all-mapped as-one one-plain bs plain-blocks) in
-    let m = acted-on 2 1 bs (all []) in let n = acted-on 1 1 (map as-one bs) (all []) in
-    let same = same-pictures 1 bs (all []) plain-blocks in (
+    let plain-blocks = blocks-only xs 2 bs e .2 in let ones = map as-one bs in
+    let is = blocks-back 1 ones refl (all-mapped as-one one-plain bs plain-blocks) in let same = same-pictures 1 bs here plain-blocks in (
       is,
       record {
-        blocks = listed m;
-        others = listed n;
-        reads = output-reads xs 2 (all bs) e;
-        other-reads = output-reads ys 1 (all (map as-one bs)) is;
-        pixels = sym (listed-pictures m) ∙ ap listed same ∙ listed-pictures n;
-        error = ap (λ (w : Written). w .error) (shown-run xs 2 (all bs) e) ∙ shown-error 2 m ∙ ap said same
-            ∙ sym (ap (λ (w : Written). w .error) (shown-run ys 1 (all (map as-one bs)) is) ∙ shown-error 1 n);
+        blocks = acted-on 2 1 bs here .0;
+        others = acted-on 1 1 ones here .0;
+        reads = output-reads xs 2 (bs, here) e;
+        other-reads = output-reads _ 1 (ones, here) is;
+        pixels = ap (λ (m : Records (List ℕ)). m .0) same;
+        error = ap (λ (w : Written). w .error) (shown-run xs 2 (bs, here) e) ∙ ap (λ (m : Records (List ℕ)). said (m .1)) same
+            ∙ sym (ap (λ (w : Written). w .error) (shown-run _ 1 (ones, here) is));
       },
     )

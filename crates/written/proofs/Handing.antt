@@ -21,7 +21,7 @@ same-earlier a b u v e n m i =
     both (same-front (a .output) (b .output) (u .output) (v .output) (ap (λ (w : Written). w .output) e) (sym n) i)
     (same-front (a .error) (b .error) (u .error) (v .error) (ap (λ (w : Written). w .error) e) (sym m) i)
 
-module _ {R S : Type 0} (t : Task R S) {input : List ℕ} where
+module _ {S : Type 0} (t : Task S) {input : List ℕ} where
   pub handed : {w : Written} → Handed t input w → (rest : Written) × (run t input ≡ ahead w rest)
   handed none = (run t input, refl)
   handed (part {so-far} h past more e {w} n) =

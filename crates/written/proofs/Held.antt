@@ -6,7 +6,9 @@ use mathlib.Core.List.{List, [], _++_, append-assoc, append-nil}
 use Prim.Native.Nat.{ℕ, _+_, _-_, _≤_}
 use native.Mathlib.Omega.{arith}
 use lib.ListN.{length, take, drop, length-take, length-drop, length-append}
-use lib.Seq.{take-add, sets, sets-eq, take-at}
+use lib.Seq.{take-add, sets-eq, take-at}
+use Rattle.blockfile.specs.Inner.{Put}
+use Rattle.blockfile.proofs.Writing.{put-length}
 use Rattle.jobs.specs.Task.{Written, both, nothing, ahead, Task, run}
 use Rattle.jobs.specs.Steps.{Place, outset}
 use Rattle.written.specs.Following.{remaining}
@@ -14,13 +16,13 @@ use Rattle.written.specs.Output.{Next, Last}
 use Rattle.written.proofs.Handing.{ahead-ahead}
 
 -- bytes that were put after others
-pub take-put : (bytes out : List ℕ) (put : ℕ) → put + length bytes ≤ length out
-    → take (put + length bytes) (sets out put bytes) ≡ take put out ++ bytes
-take-put bytes out put room =
-    rw (sets-eq bytes out put room)
-    (take-at (take put out ++ bytes) (drop (put + length bytes) out) (put + length bytes) (rw (length-append, length-take) (omega arith)))
+take-put : {bytes out out′ : List ℕ} {put end : ℕ} → Put bytes out put out′ end → take end out′ ≡ take put out ++ bytes
+take-put {bytes} {out} {put = put} w =
+    rw (w .elements, w .place, sets-eq bytes out put (omega (arith, w .place, w .room)))
+    (take-at (take put out ++ bytes) (drop (put + length bytes) out) (put + length bytes)
+    (rw (length-append, length-take) (omega (arith, w .place, w .room))))
 
-module _ {R S : Type 0} (t : Task R S) where
+module _ {S : Type 0} (t : Task S) where
   -- The input buffer holds the bytes from `at` to `have`; the two others hold what was written and not yet handed on. So many bytes were read, and so
   -- many handed on to standard output and to standard error.
   pub record Running (input output error : List ℕ) (at have put told read sent said : ℕ) (p : Place S) : Type 0 where
@@ -57,17 +59,19 @@ module _ {R S : Type 0} (t : Task R S) where
     held = both (take put output) (take told error)
 
     pub next : Next t read sent said (take put output) (take told error)
-    next = record {
-      past = r .past;
-      read-is = r .read-is;
-      next = record {
-        earlier = r .earlier;
-        sent-is = r .sent-is;
-        said-is = r .said-is;
-        rest = λ more. remaining t p (drop at (take have input) ++ more);
-        is = r .so-far;
-      };
-    }
+    next = (
+      r .past,
+      (
+        r .read-is,
+        record {
+          earlier = r .earlier;
+          sent-is = r .sent-is;
+          said-is = r .said-is;
+          rest = λ more. remaining t p (drop at (take have input) ++ more);
+          is = r .so-far;
+        },
+      ),
+    )
 
     -- both were handed on
     pub flushed : Running input output error at have 0 0 read (sent + put) (said + told) p
@@ -86,58 +90,46 @@ module _ {R S : Type 0} (t : Task R S) where
 
     -- nothing was written
     pub unchanged : {output′ error′ : List ℕ} → output′ ≡ output → error′ ≡ error → Running input output′ error′ at have put told read sent said p
-    unchanged {error′} o e =
-        subst (λ (l : List ℕ). Running input l error′ at have put told read sent said p) (sym o)
-        (subst (λ (l : List ℕ). Running input output l at have put told read sent said p) (sym e) r)
+    unchanged o e = rw (o, e) r
 
     -- a step put w into the buffers
-    module _ (w : Written) {output′ error′ : List ℕ} (o : output′ ≡ sets output put (w .output)) (e : error′ ≡ sets error told (w .error))
-        (room : put + length (w .output) ≤ length output) (error-room : told + length (w .error) ≤ length error) where
-      both-put : (x : Written) → ahead (r .earlier) (ahead held (ahead w x)) ≡ ahead (r .earlier)
-          (ahead (both (take (put + length (w .output)) output′) (take (told + length (w .error)) error′)) x)
-      both-put x =
-          ap (ahead (r .earlier)) (ahead-ahead held w x) ∙ sym (λ i. ahead (r .earlier) (ahead (both (out i) (err i)) x))
-        where
-          out : take (put + length (w .output)) output′ ≡ take put output ++ w .output
-          out = ap (take (put + length (w .output))) o ∙ take-put (w .output) output put room
-
-          err : take (told + length (w .error)) error′ ≡ take told error ++ w .error
-          err = ap (take (told + length (w .error))) e ∙ take-put (w .error) error told error-room
+    module _ (w : Written) {output′ error′ : List ℕ} {end last : ℕ} (o : Put (w .output) output put output′ end)
+        (e : Put (w .error) error told error′ last) where
+      both-put : (x : Written) → ahead held (ahead w x) ≡ ahead (both (take end output′) (take last error′)) x
+      both-put x = ahead-ahead held w x ∙ sym (λ i. ahead (both (take-put o i) (take-put e i)) x)
 
       pub stepped : {q : Place S} {next : ℕ}
           → ((more : List ℕ) → remaining t p (drop at (take have input) ++ more) ≡ ahead w (remaining t q (drop next (take have input) ++ more)))
-          → next ≤ have → length output′ ≡ length output → length error′ ≡ length error
-          → Running input output′ error′ next have (put + length (w .output)) (told + length (w .error)) read sent said q
-      stepped {q} {next} goes inside′ same same′ = record {
+          → next ≤ have → Running input output′ error′ next have end last read sent said q
+      stepped {q} {next} goes inside′ = record {
         past = r .past;
         earlier = r .earlier;
-        so-far = λ more.
-            r .so-far more ∙ ap (λ (x : Written). ahead (r .earlier) (ahead held x)) (goes more)
-            ∙ both-put (remaining t q (drop next (take have input) ++ more));
+        so-far = λ more. r .so-far more ∙ ap (λ (x : Written). ahead (r .earlier) x) (ap (ahead held) (goes more) ∙ both-put _);
         read-is = r .read-is;
         sent-is = r .sent-is;
         said-is = r .said-is;
         before-end = inside′;
         inside = r .inside;
-        room = omega (arith, room, same);
-        error-room = omega (arith, error-room, same′);
+        room = omega (arith, o .room, put-length o);
+        error-room = omega (arith, e .room, put-length e);
       }
 
       -- w is written last: `has-ended` says that nothing can follow
       pub closes : (has-ended : Bool) → ((more : List ℕ) → (has-ended ≡ true → more ≡ []) → remaining t p (drop at (take have input) ++ more) ≡ w)
-          → Last t has-ended read sent said (take (put + length (w .output)) output′) (take (told + length (w .error)) error′)
-      closes has-ended is = record {
-        past = r .past;
-        read-is = r .read-is;
-        last = record {
-          earlier = r .earlier;
-          sent-is = r .sent-is;
-          said-is = r .said-is;
-          is = λ more h.
-              r .so-far more ∙ ap (λ (x : Written). ahead (r .earlier) (ahead held x)) (is more h ∙ sym (ahead-nothing w)) ∙ both-put nothing
-              ∙ ap (ahead (r .earlier)) (ahead-nothing _);
-        };
-      }
+          → Last t has-ended read sent said (take end output′) (take last error′)
+      closes has-ended is = (
+        r .past,
+        (
+          r .read-is,
+          record {
+            earlier = r .earlier;
+            sent-is = r .sent-is;
+            said-is = r .said-is;
+            is = λ more h. r .so-far more ∙ ap (λ (x : Written). ahead (r .earlier) x)
+                (ap (ahead held) (is more h ∙ sym (ahead-nothing w)) ∙ both-put nothing ∙ ahead-nothing _);
+          },
+        ),
+      )
         where
           ahead-nothing : (a : Written) → ahead a nothing ≡ a
           ahead-nothing a i = both (append-nil (a .output) i) (append-nil (a .error) i)

@@ -8,21 +8,17 @@ use native.Mathlib.Numerals.{add-one}
 use lib.Dec.{eqb}
 use lib.ListN.{length, take, drop, replicate, length-take, length-drop}
 use Rattle.blockfile.specs.Read.{Read, got, refused}
-use Rattle.blockfile.specs.Record.{Block}
-use Rattle.blockfile.specs.File.{first}
-use Rattle.blockfile.proofs.Forms.{Lawful}
-use Rattle.blockfile.proofs.Rooms.{Room, Some}
-use Rattle.blockfile.proofs.Records.{Writable, form-lawful, form-room, some-form}
-use Rattle.blockfile.proofs.Fill.{place-of}
+use Rattle.blockfile.specs.Record.{Block, form}
+use Rattle.blockfile.specs.File.{here, refused-at, first, known}
+use Rattle.blockfile.proofs.Writing.{put-length}
 use Rattle.tally.proofs.Tallies.{none-yet}
-use Rattle.jobs.specs.Task.{Written, ahead, Done, done, bad, here, refused-at, Task}
-use Rattle.jobs.specs.Steps.{Place, outset, before, Step, wrote, wanted, closed, number, mind, ending, falling, opened, acting, came, step}
+use Rattle.jobs.specs.Task.{Written, ahead, Done, done, bad, Task}
+use Rattle.jobs.specs.Steps.{Place, outset, before, Step, wrote, wanted, closed, number, mind, ending, falling, opened, acting, came}
+use Rattle.jobs.specs.Steps.{step}
 use Rattle.written.specs.Following.{remaining, Follows}
-use Rattle.jobs.specs.Act.{blocks}
-use Rattle.jobs.specs.Salvage.{salvage}
 use Rattle.jobs.specs.Totalling.{totalling}
 use Rattle.written.specs.Output.{Last}
-use Rattle.jobs.specs.Stepping.{Minds, rest-of, version-of, mind-at, mind-after, turn-of, Stepped, place-at, roomy, Turned}
+use Rattle.jobs.specs.Stepping.{Minds, version-of, mind-at, mind-after, turn-of, io, Stepped, place-at, roomy, Turned}
 use Rattle.jobs.specs.Jobs.{Mind, task-of}
 use Rattle.jobs.specs.declared.step.Job.{Job}
 use Rattle.jobs.specs.declared.step.Job.the-variants as Job
@@ -31,25 +27,6 @@ use Rattle.jobs.specs.declared.step.Turn.the-variants.{Wrote, Full, More, Stop}
 use Rattle.written.proofs.Streaming.{follows}
 use Rattle.written.proofs.Held.{Running, unchanged, stepped, closes}
 
--- every job reads records of one form
-job-lawful : (j : Job) (v : ℕ) → Lawful (task-of j .form v) (Writable v)
-unfolding blocks salvage totalling
-job-lawful Job.Blocks v = form-lawful v
-job-lawful Job.Salvage v = form-lawful v
-job-lawful (Job.Totals most) v = form-lawful v
-
-some-job : (j : Job) (v : ℕ) → Some (task-of j .form v)
-unfolding blocks salvage totalling
-some-job Job.Blocks v = some-form v
-some-job Job.Salvage v = some-form v
-some-job (Job.Totals most) v = some-form v
-
-job-room : (j : Job) (v : ℕ) → Room (task-of j .form v) (Writable v) 10265
-unfolding blocks salvage totalling
-job-room Job.Blocks v = form-room v
-job-room Job.Salvage v = form-room v
-job-room (Job.Totals most) v = form-room v
-
 -- ---- after a step that wrote, the next number follows
 
 abbrev NextTo : {S : Type 0} → Place S → Step S → Type 0
@@ -57,7 +34,7 @@ NextTo {S} p (wrote w q rest) = (m : S) × (q ≡ before (version-of q) (suc (nu
 NextTo {S} p wanted = Unit {0}
 NextTo {S} p (closed w) = Unit {0}
 
-module _ {S : Type 0} (t : Task Block S) (last : Bool) where
+module _ {S : Type 0} (t : Task S) (last : Bool) where
   next-falling : (p : Place S) (k : ℕ) → NextTo p (falling t last p k)
   unfolding falling
   next-falling p k = go (eqb k 15 && not last)
@@ -68,7 +45,7 @@ module _ {S : Type 0} (t : Task Block S) (last : Bool) where
 
   next-to : (p : Place S) (bs : List ℕ) → NextTo p (step t last p bs)
   unfolding step opened came acting
-  next-to outset bs = go (first (t .known) .read bs)
+  next-to outset bs = go (first known .read bs)
     where
       go : (r : Read ℕ) → NextTo outset (opened t last r)
       go (got v rest) = (t .start, refl)
@@ -78,7 +55,7 @@ module _ {S : Type 0} (t : Task Block S) (last : Bool) where
       go : (l : Bool) → NextTo (before v i s) (cond l (ending t (before v i s) here) wanted)
       go true = tt
       go false = tt
-  next-to (before v i s) (b ∷ bs) = go (t .past i) (t .form v .read (b ∷ bs))
+  next-to (before v i s) (b ∷ bs) = go (t .past i) (form v .read (b ∷ bs))
     where
       by : (rest : List ℕ) (a : Done (S × Written)) → NextTo (before v i s) (acting t v i s rest a)
       by rest (done a) = (a .0, refl)
@@ -110,64 +87,58 @@ module _ (j : Job) (v i : ℕ) (m : Mind j) {input output error : List ℕ} {at 
   After (Stop end end-told) = (end ≤ length output′)
       × ((end-told ≤ length error′) × Last (task-of j) last read sent said (take end output′) (take end-told error′))
 
-  module _ (same : length output′ ≡ length output) (same′ : length error′ ≡ length error) where
-    abbrev p : Place (Mind j)
-    p = place-at v i m
+  abbrev p : Place (Mind j)
+  p = place-at v i m
 
-    abbrev s : List ℕ
-    s = take have input
+  abbrev s : List ℕ
+  s = take have input
 
-    stepped-to : (d : Step (Mind j)) → step (task-of j) last p (drop at s) ≡ d → {a : Turn}
-        → Stepped j d (length s - length (rest-of d)) output put error told output′ error′ a
-        → Minds j sums′ (mind-after (mind (task-of j) p) d) → After a
-    stepped-to d e x h = subst After (sym (x .answer)) (go d e x h)
-      where
-        f : Follows (task-of j) last p (drop at s) (step (task-of j) last p (drop at s))
-        f = follows (task-of j) (job-lawful j) (some-job j) (job-room j) last p (drop at s)
+  stepped-to : (d : Step (Mind j)) → step (task-of j) last p (drop at s) ≡ d → {a : Turn} → Stepped d s (io output put error told output′ error′ a)
+      → Minds j sums′ (mind-after (mind (task-of j) p) d) → After a
+  stepped-to d e x h = subst After (sym (x .is)) (go d e x h)
+    where
+      f : Follows (task-of j) last p (drop at s) (step (task-of j) last p (drop at s))
+      f = follows (task-of j) last p (drop at s)
 
-        go : (d : Step (Mind j)) → step (task-of j) last p (drop at s) ≡ d → {a : Turn}
-            → Stepped j d (length s - length (rest-of d)) output put error told output′ error′ a → Minds j sums′ (mind-after (mind (task-of j) p) d)
-            → After (turn-of (length s - length (rest-of d)) put told d)
-        go (wrote w q rest) e x h =
-            let g : Follows (task-of j) last p (drop at s) (wrote w q rest) = subst (Follows (task-of j) last p (drop at s)) e f in
-            let at-rest : drop (length s - length rest) s ≡ rest = place-of s (g .1 .front) rest at (g .1 .is) in
-            let n : NextTo p (wrote w q rest) = subst (NextTo p) e (next-to (task-of j) last p (drop at s)) in
-            let next : q ≡ place-at (version-of q) (i + 1) (n .0) =
-            n .1 ∙ ap (λ (k : ℕ). before (version-of q) (suc k) (n .0)) (number-at v i m)
-            ∙ ap (λ (k : ℕ). place-at (version-of q) k (n .0)) (sym (add-one i)) in (
-              n .0,
-              (
-                subst (Running (task-of j) input output′ error′ (length s - length rest) have (put + length (w .output))
-                    (told + length (w .error)) read sent said) next
-                    (stepped (task-of j) r w (x .output) (x .error) (x .room) (x .error-room)
-                    (λ more. g .0 more ∙ ap (λ (l : List ℕ). ahead w (remaining (task-of j) q (l ++ more))) (sym at-rest))
-                    (simp length-take (omega (arith, r .inside))) same same′),
-                subst (λ (k : ℕ). Minds j sums′ (mind (task-of j) (place-at (version-of q) k (n .0)))) (sym (add-one i))
-                    (subst (λ (q : Place (Mind j)). Minds j sums′ (mind-at (mind (task-of j) p) q)) (n .1) h),
-              ),
-            )
-        go wanted e x h =
-            let g : Follows (task-of j) last p (drop at s) wanted = subst (Follows (task-of j) last p (drop at s)) e f in
-            let few = g .1 in
-            (unchanged (task-of j) r (x .output) (x .error), (h, omega (arith, simp (length-drop, length-take) at few, r .inside)))
-        go (closed w) e x h = (
-          omega (arith, x .room, same),
-          (
-            omega (arith, x .error-room, same′),
-            closes (task-of j) r w (x .output) (x .error) (x .room) (x .error-room) last
-                (subst (Follows (task-of j) last p (drop at s)) e f),
-          ),
-        )
+      go : (d : Step (Mind j)) → step (task-of j) last p (drop at s) ≡ d → {a : Turn} (x : Stepped d s (io output put error told output′ error′ a))
+          → Minds j sums′ (mind-after (mind (task-of j) p) d) → After (turn-of (x .next) (x .end) (x .last) d)
+      go (wrote w q rest) e x h =
+          let g : Follows (task-of j) last p (drop at s) (wrote w q rest) = subst (Follows (task-of j) last p (drop at s)) e f in
+          let n : NextTo p (wrote w q rest) = subst (NextTo p) e (next-to (task-of j) last p (drop at s)) in
+          let next : q ≡ place-at (version-of q) (i + 1) (n .0) =
+          n .1 ∙ ap (λ (k : ℕ). before (version-of q) (suc k) (n .0)) (number-at v i m)
+          ∙ ap (λ (k : ℕ). place-at (version-of q) k (n .0)) (sym (add-one i)) in (
+            n .0,
+            (
+              subst (Running (task-of j) input output′ error′ (x .next) have (x .end) (x .last) read sent said) next
+                  (stepped (task-of j) r w (x .output) (x .error)
+                  (λ more. g more ∙ ap (λ (l : List ℕ). ahead w (remaining (task-of j) q (l ++ more))) (x .left .0))
+                  (omega (arith, simp length-take at (x .left .1)))),
+              subst (λ (k : ℕ). Minds j sums′ (mind (task-of j) (place-at (version-of q) k (n .0)))) (sym (add-one i))
+                  (subst (λ (q : Place (Mind j)). Minds j sums′ (mind-at (mind (task-of j) p) q)) (n .1) h),
+            ),
+          )
+      go wanted e x h =
+          let g : Follows (task-of j) last p (drop at s) wanted = subst (Follows (task-of j) last p (drop at s)) e f in
+          let few = g .1 in
+          (unchanged (task-of j) r (x .output .elements) (x .error .elements), (h, omega (arith, simp (length-drop, length-take) at few, r .inside)))
+      go (closed w) e x h = (
+        omega (arith, x .output .room, put-length (x .output)),
+        (
+          omega (arith, x .error .room, put-length (x .error)),
+          closes (task-of j) r w (x .output) (x .error) last (subst (Follows (task-of j) last p (drop at s)) e f),
+        ),
+      )
 
-    pub after : (sums : List ℕ) → Minds j sums (mind (task-of j) p) → (a : Turn)
-        → Turned (roomy j sums output put error told) j p s at last sums output put error told sums′ output′ error′ a → After a
-    after sums h a x = go (roomy j sums output put error told) x
-      where
-        go : (t : Bool) → Turned t j p s at last sums output put error told sums′ output′ error′ a → After a
-        go true x = let y = x h in stepped-to (step (task-of j) last p (drop at s)) refl (y .0) (y .1)
-        go false x =
-            subst After (sym (x .1 .1 .1))
-            (unchanged (task-of j) r (x .1 .0) (x .1 .1 .0), subst (λ (l : List ℕ). Minds j l (mind (task-of j) p)) (sym (x .0)) h)
+  pub after : (sums : List ℕ) → Minds j sums (mind (task-of j) p) → (a : Turn) → let x = io output put error told output′ error′ a in
+      Turned (roomy j sums x) j p s at last sums sums′ x → After a
+  after sums h a x = let y = io output put error told output′ error′ a in go (roomy j sums y) x
+    where
+      go : (t : Bool) → Turned t j p s at last sums sums′ (io output put error told output′ error′ a) → After a
+      go true x = let y = x .steps h in stepped-to (step (task-of j) last p (drop at s)) refl (y .0) (y .1)
+      go false x =
+          subst After (sym (x .1 .1 .1))
+          (unchanged (task-of j) r (x .1 .0) (x .1 .1 .0), subst (λ (l : List ℕ). Minds j l (mind (task-of j) p)) (sym (x .0)) h)
 
 -- before the first number
 pub minds-none : (j : Job) → Minds j (replicate 276 0) (task-of j .start)

@@ -39,13 +39,12 @@ use Rattle.itx.proofs.Numbers.{num, answer-num, By, num-by, then-by, judged-by,
 use Rattle.blockfile.specs.Form.{number, write-each, Each}
 use Rattle.blockfile.specs.Record.{Block, area, sized, count, Plain, form}
 use Rattle.blockfile.specs.declared.record.Head.{Head}
-use Rattle.blockfile.specs.File.{all, before, file, write-file, read-blocks, write-blocks}
+use Rattle.blockfile.specs.File.{End, here, refused-at, file, read-blocks, write-blocks}
 use Rattle.blockfile.proofs.Forms.{each-length}
 use Rattle.blockfile.proofs.Files.{blocks-back, blocks-only}
 use Rattle.jobs.specs.Rows.{spread, buffered}
-use Rattle.text.specs.Text.{refused-line}
-use Rattle.jobs.specs.Task.{Written, both, ahead, End, here, refused-at, begun, told-on, told, told-file, run}
-use Rattle.jobs.specs.Act.{call-for, given, call, told-end}
+use Rattle.jobs.specs.Task.{Written, both, ahead, begun, told, told-file, run}
+use Rattle.jobs.specs.Act.{call-for, given, call, said}
 use Rattle.mend.specs.Mend.{planned, range, moved, mended, mend, changes-of, before9, InRange, PixelsLow, lines, all-lines}
 use Rattle.jobs.specs.Salvage.{salvage}
 use Rattle.written.specs.Salvaged.{pixels-line}
@@ -278,39 +277,36 @@ mended-plain v b r = record {
     go (refuse n i) = r .coefficients
 
 -- it can be read again, and holds the records as they were mended
-pub reads-back : (xs : List ℕ) (v : ℕ) (bs : List Block) → read-blocks xs ≡ file v (all bs)
-    → read-blocks (write-blocks v (map mend bs)) ≡ file v (all (map mend bs))
+pub reads-back : (xs : List ℕ) (v : ℕ) (bs : List Block) → read-blocks xs ≡ file v (bs, here)
+    → read-blocks (write-blocks v (map mend bs)) ≡ file v (map mend bs, here)
 reads-back xs v bs e =
     let r = blocks-only xs v bs e in blocks-back v (map mend bs) (r .0) (all-mapped mend (mended-plain v) bs (r .2))
 
 -- ---- the run: the records mended, and the lines of their changes
 
 told-next : (v i : ℕ) (b : Block) (bs : List Block) (e : End) {w : Written}
-    → w ≡ both (write-each (form v) (map mend bs)) (all-lines (suc i) bs ++ told-end e .error)
+    → w ≡ both (write-each (form v) (map mend bs)) (all-lines (suc i) bs ++ said e)
     → ahead (both (form v .write (mend b)) (lines i (changes-of b))) w
-    ≡ both (write-each (form v) (map mend (b ∷ bs))) (all-lines i (b ∷ bs) ++ told-end e .error)
+    ≡ both (write-each (form v) (map mend (b ∷ bs))) (all-lines i (b ∷ bs) ++ said e)
 unfolding write-each all-lines
 told-next v i b bs e is =
     ap (ahead (both (form v .write (mend b)) (lines i (changes-of b)))) is
-    ∙ ap (both (write-each (form v) (map mend (b ∷ bs)))) (sym (append-assoc (lines i (changes-of b)) (all-lines (suc i) bs) (told-end e .error)))
+    ∙ ap (both (write-each (form v) (map mend (b ∷ bs)))) (sym (append-assoc (lines i (changes-of b)) (all-lines (suc i) bs) (said e)))
 
-told-on-is : (v i : ℕ) (bs : List Block) (e : End)
-    → told-on salvage v i tt bs e ≡ both (write-each (form v) (map mend bs)) (all-lines i bs ++ told-end e .error)
-unfolding told-on salvage begun write-each all-lines told-end Rattle.jobs.specs.Task.judged
-told-on-is v i [] here = refl
-told-on-is v i [] (refused-at j k) = refl
-told-on-is v i (b ∷ bs) e = told-next v i b bs e (told-on-is v (suc i) bs e)
+told-is : (v i : ℕ) (bs : List Block) (e : End) → told salvage v i tt bs e ≡ both (write-each (form v) (map mend bs)) (all-lines i bs ++ said e)
+unfolding told salvage begun write-each all-lines Rattle.jobs.specs.Task.judged
+told-is v i [] here = refl
+told-is v i [] (refused-at j k) = refl
+told-is v i (b ∷ bs) e = told-next v i b bs e (told-is v (suc i) bs e)
 
 module _ (xs : List ℕ) (v : ℕ) (bs : List Block) where
-  -- of a file that is read to its end
-  pub salvaged-file : read-blocks xs ≡ file v (all bs) → run salvage xs ≡ both (write-blocks v (map mend bs)) (all-lines 1 bs)
-  unfolding run told-file told salvage read-blocks write-blocks write-file told-end
-  salvaged-file e =
-      ap (told-file salvage) e ∙ ap (ahead (both (number .write v) [])) (told-on-is v 1 bs here)
-      ∙ ap (both (write-blocks v (map mend bs))) (append-nil (all-lines 1 bs))
+  -- of a file that is read up to any end, that of a refused record too
+  pub salvaged-part : (end : End) → read-blocks xs ≡ file v (bs, end)
+      → run salvage xs ≡ both (write-blocks v (map mend bs)) (all-lines 1 bs ++ said end)
+  unfolding run told-file salvage write-blocks
+  salvaged-part end e = ap (told-file salvage) e ∙ ap (ahead (both (number .write v) [])) (told-is v 1 bs end)
 
-  -- and of one that is refused at record j
-  pub salvaged-part : (j k : ℕ) → read-blocks xs ≡ file v (before bs j k)
-      → run salvage xs ≡ both (write-blocks v (map mend bs)) (all-lines 1 bs ++ refused-line j k)
-  unfolding run told-file told salvage read-blocks write-blocks write-file told-end
-  salvaged-part j k e = ap (told-file salvage) e ∙ ap (ahead (both (number .write v) [])) (told-on-is v 1 bs (refused-at j k))
+  -- and of one that is read to its end
+  pub salvaged-file : read-blocks xs ≡ file v (bs, here) → run salvage xs ≡ both (write-blocks v (map mend bs)) (all-lines 1 bs)
+  unfolding said
+  salvaged-file e = salvaged-part here e ∙ ap (both (write-blocks v (map mend bs))) (append-nil (all-lines 1 bs))

@@ -8,28 +8,18 @@ use lib.Dec.{eqb}
 use lib.ListN.{length}
 use borrow.Author.Tests.{eqb-true, eqb-false}
 use Rattle.blockfile.specs.Read.{Read, got, refused}
-use Rattle.blockfile.specs.Form.{Form}
-use Rattle.blockfile.specs.Form as Form
-use Rattle.blockfile.specs.File.{Records, all, after, onward, records-in, records, first, read-file}
+use Rattle.blockfile.specs.Record.{Block, form}
+use Rattle.blockfile.specs.File.{here, refused-at, onward, records-in, records, first, known, read-file, read-blocks}
 use Rattle.blockfile.specs.File as File
-use Rattle.blockfile.proofs.Forms.{Lawful, whole}
-use Rattle.blockfile.proofs.Rooms.{Room, Some, number-room, only-if-room}
+use Rattle.blockfile.proofs.Forms.{whole}
+use Rattle.blockfile.proofs.Rooms.{number-room, only-if-room}
+use Rattle.blockfile.proofs.Records.{form-lawful, form-room, some-form}
 use Rattle.blockfile.proofs.Files.{records-step, first-lawful}
-use Rattle.jobs.specs.Task.{Written, Done, done, bad, here, refused-at, Task, begun, judged, told-on, told, told-file, run}
+use Rattle.jobs.specs.Task.{Written, Done, done, bad, Task, begun, judged, told, told-file, run}
 use Rattle.jobs.specs.Steps.{Place, outset, before, wanted, number, mind, ending, falling, opened, acting, came, step}
-use Rattle.written.specs.Following.{Left, remaining, Follows}
+use Rattle.written.specs.Following.{remaining, Follows}
 
-took : {A : Type 0} {c : Form A} {W : A → Type 0} → Lawful c W → (bs : List ℕ) (a : A) (rest : List ℕ) → c .read bs ≡ got a rest → Left bs rest
-took {c} l bs a rest e = record { front = c .write a; is = l .only bs a rest e .0 }
-
-module _ {R S : Type 0} (t : Task R S) where
-  -- a first record, and then the others
-  told-after : (v i : ℕ) (s : S) (r : R) (rs : Records R)
-      → told t v i s (after r rs) ≡ begun t i s (judged t i s (t .act v i s r) (λ s. told t v (suc i) s rs))
-  unfolding told told-on after
-  told-after v i s r (all rs) = refl
-  told-after v i s r (File.before rs j k) = refl
-
+module _ {S : Type 0} (t : Task S) where
   -- reading refused by k: 15 may change with more bytes, and no other number does
   falls : (last : Bool) (p : Place S) (bs : List ℕ) (k : ℕ)
       → (k ≡ 15 → (remaining t p bs ≡ t .closing (mind t p) (refused-at (number p) k)) × (length bs < 10265))
@@ -44,69 +34,61 @@ module _ {R S : Type 0} (t : Task R S) where
       go true false e = (refl, short (eqb-true k 15 e) .1)
       go false l e = λ more end. stays (eqb-false k 15 e) more
 
-  module _ {W : ℕ → R → Type 0} (l : (v : ℕ) → Lawful (t .form v) (W v)) (some : (v : ℕ) → Some (t .form v))
-      (room : (v : ℕ) → Room (t .form v) (W v) 10265) (last : Bool) where
-    at-first : (bs : List ℕ) → Follows t last outset bs (opened t last (first (t .known) .read bs))
-    unfolding opened remaining run read-file File.opened told-file first
-    at-first bs = go (first (t .known) .read bs) refl
+  module _ (last : Bool) where
+    at-first : (bs : List ℕ) → Follows t last outset bs (opened t last (first known .read bs))
+    unfolding opened remaining run read-blocks read-file File.opened told-file first
+    at-first bs = go (first known .read bs) refl
       where
-        few : (k : ℕ) → first (t .known) .read bs ≡ refused k → k ≡ 15 → length bs < 10265
-        few k e q = let n = only-if-room (t .known) 18 5 (λ q. omega arith) number-room .enough bs (e ∙ ap refused q) in omega arith
+        few : (k : ℕ) → first known .read bs ≡ refused k → k ≡ 15 → length bs < 10265
+        few k e q = let n = only-if-room known 18 5 (λ q. omega arith) number-room .enough bs (e ∙ ap refused q) in omega arith
 
-        go : (r : Read ℕ) → first (t .known) .read bs ≡ r → Follows t last outset bs (opened t last r)
-        go (got v rest) e = (λ more. rw (whole (first-lawful (t .known)) bs more v rest e), took (first-lawful (t .known)) bs v rest e)
-        go (refused k) e = falls last outset bs k (λ q. (rw e, few k e q)) (λ h more. rw (first-lawful (t .known) .stays bs more k e h))
+        go : (r : Read ℕ) → first known .read bs ≡ r → Follows t last outset bs (opened t last r)
+        go (got v rest) e = λ more. rw (whole (first-lawful known) bs more v rest e)
+        go (refused k) e = falls last outset bs k (λ q. (rw e, few k e q)) (λ h more. rw (first-lawful known .stays bs more k e h))
 
     module _ (v i : ℕ) (s : S) (b : ℕ) (bs : List ℕ) where
-      is-refused : (more : List ℕ) (k : ℕ) → t .form v .read (b ∷ bs ++ more) ≡ refused k
+      is-refused : (more : List ℕ) (k : ℕ) → form v .read (b ∷ bs ++ more) ≡ refused k
           → remaining t (before v i s) (b ∷ bs ++ more) ≡ begun t i s (t .closing s (refused-at i k))
-      unfolding remaining onward told told-on
-      is-refused more k e = rw (records-step (l v) (some v) i b (bs ++ more), e)
+      unfolding remaining onward told
+      is-refused more k e = rw (records-step (form-lawful v) (some-form v) i b (bs ++ more), e)
 
-      is-got : (more : List ℕ) (r : R) (rest : List ℕ) → t .form v .read (b ∷ bs ++ more) ≡ got r rest
-          → remaining t (before v i s) (b ∷ bs ++ more)
-          ≡ begun t i s (judged t i s (t .act v i s r) (λ s. told t v (suc i) s (records (t .form v) (suc i) rest)))
-      unfolding remaining onward
-      is-got more r rest e = rw (records-step (l v) (some v) i b (bs ++ more), e, told-after)
+      is-got : (more : List ℕ) (r : Block) (rest : List ℕ) → form v .read (b ∷ bs ++ more) ≡ got r rest
+          → remaining t (before v i s) (b ∷ bs ++ more) ≡ begun t i s (judged t i s (t .act v i s r) (λ s. remaining t (before v (suc i) s) rest))
+      unfolding remaining onward told
+      is-got more r rest e = rw (records-step (form-lawful v) (some-form v) i b (bs ++ more), e)
 
       -- one record too many
       too-many : t .past i ≡ true → (more : List ℕ) → remaining t (before v i s) (b ∷ bs ++ more) ≡ t .closing s (refused-at i 22)
       unfolding begun
-      too-many h more = go (t .form v .read (b ∷ bs ++ more)) refl
+      too-many h more = go (form v .read (b ∷ bs ++ more)) refl
         where
-          over : (w : Written) → begun t i s w ≡ t .closing s (refused-at i 22)
-          over w = rw h
-
-          go : (r : Read R) → t .form v .read (b ∷ bs ++ more) ≡ r → remaining t (before v i s) (b ∷ bs ++ more) ≡ t .closing s (refused-at i 22)
-          go (got r rest) e = is-got more r rest e ∙ over _
-          go (refused k) e = is-refused more k e ∙ over _
+          go : (r : Read Block) → form v .read (b ∷ bs ++ more) ≡ r → remaining t (before v i s) (b ∷ bs ++ more) ≡ t .closing s (refused-at i 22)
+          go (got r rest) e = is-got more r rest e ∙ rw h
+          go (refused k) e = is-refused more k e ∙ rw h
 
       module _ (h : t .past i ≡ false) where
         under : (w : Written) → begun t i s w ≡ w
         unfolding begun
         under w = rw h
 
-        at-record : Follows t last (before v i s) (b ∷ bs) (came t last v i s (t .form v .read (b ∷ bs)))
-        unfolding came acting remaining judged
-        at-record = go (t .form v .read (b ∷ bs)) refl
+        at-record : Follows t last (before v i s) (b ∷ bs) (came t last v i s (form v .read (b ∷ bs)))
+        unfolding came acting judged
+        at-record = go (form v .read (b ∷ bs)) refl
           where
-            done-or : (r : R) (rest : List ℕ) → t .form v .read (b ∷ bs) ≡ got r rest → (d : Done (S × Written)) → t .act v i s r ≡ d
+            done-or : (r : Block) (rest : List ℕ) → form v .read (b ∷ bs) ≡ got r rest → (d : Done (S × Written)) → t .act v i s r ≡ d
                 → Follows t last (before v i s) (b ∷ bs) (acting t v i s rest d)
-            done-or r rest e (done a) q = (
-              λ more. is-got more r (rest ++ more) (whole (l v) (b ∷ bs) more r rest e) ∙ under _ ∙ rw q,
-              took (l v) (b ∷ bs) r rest e,
-            )
-            done-or r rest e (bad k) q = λ more end. is-got more r (rest ++ more) (whole (l v) (b ∷ bs) more r rest e) ∙ under _ ∙ rw q
+            done-or r rest e (done a) q = λ more. is-got more r (rest ++ more) (whole (form-lawful v) (b ∷ bs) more r rest e) ∙ under _ ∙ rw q
+            done-or r rest e (bad k) q = λ more end. is-got more r (rest ++ more) (whole (form-lawful v) (b ∷ bs) more r rest e) ∙ under _ ∙ rw q
 
-            go : (r : Read R) → t .form v .read (b ∷ bs) ≡ r → Follows t last (before v i s) (b ∷ bs) (came t last v i s r)
+            go : (r : Read Block) → form v .read (b ∷ bs) ≡ r → Follows t last (before v i s) (b ∷ bs) (came t last v i s r)
             go (got r rest) e = done-or r rest e (t .act v i s r) refl
             go (refused k) e =
                 falls last (before v i s) (b ∷ bs) k
-                (λ q. (rw (← append-nil bs) (is-refused [] k (rw append-nil e) ∙ under _), room v .enough (b ∷ bs) (e ∙ ap refused q)))
-                (λ g more. is-refused more k (l v .stays (b ∷ bs) more k e g) ∙ under _)
+                (λ q. (rw (← append-nil bs) (is-refused [] k (rw append-nil e) ∙ under _), form-room v .enough (b ∷ bs) (e ∙ ap refused q)))
+                (λ g more. is-refused more k (form-lawful v .stays (b ∷ bs) more k e g) ∙ under _)
 
     pub follows : (p : Place S) (bs : List ℕ) → Follows t last p bs (step t last p bs)
-    unfolding step remaining records records-in told told-on
+    unfolding step remaining records records-in told
     follows outset bs = at-first bs
     follows (before v i s) [] = go last
       where
@@ -116,6 +98,6 @@ module _ {R S : Type 0} (t : Task R S) where
     follows (before v i s) (b ∷ bs) = go (t .past i) refl
       where
         go : (h : Bool) → t .past i ≡ h → Follows t last (before v i s) (b ∷ bs)
-            (cond h (ending t (before v i s) (refused-at i 22)) (came t last v i s (t .form v .read (b ∷ bs))))
+            (cond h (ending t (before v i s) (refused-at i 22)) (came t last v i s (form v .read (b ∷ bs))))
         go true h = λ more end. too-many v i s b bs h more
         go false h = at-record v i s b bs h

@@ -20,11 +20,11 @@ use Rattle.itx.proofs.Numbers.{plain-never-10}
 use Rattle.demands.proofs.Demand3.{live-plain}
 use Rattle.blockfile.specs.Form.{Each}
 use Rattle.blockfile.specs.Record.{Block, count, Plain}
-use Rattle.blockfile.specs.File.{Records, all, before, after}
+use Rattle.blockfile.specs.File.{End, Records}
 use Rattle.blockfile.proofs.Records.{both}
 use Rattle.jobs.specs.Rows.{spread}
 use Rattle.jobs.specs.Task.{done, bad}
-use Rattle.jobs.specs.Act.{given, call, left, act}
+use Rattle.jobs.specs.Act.{given, call, left, done-by, act}
 use Rattle.written.specs.Shown.{judged-block, acted-on}
 use Rattle.written.specs.Rewrite.{as-one, pictures}
 
@@ -107,24 +107,19 @@ all-mapped {w = w} f g bs h = subst⁻¹ (λ (n : ℕ). Each (Plain w) n (map f 
 
 -- ---- a file
 
-pictures-after : (b : Block) (rs : Records Block) → pictures (after b rs) ≡ after (b .pixels) (pictures rs)
-unfolding after
-pictures-after b (all bs) = refl
-pictures-after b (before bs i k) = refl
-
 same-one : (i k : ℕ) (x y : Block) → x .pixels ≡ y .pixels → (m n : Records Block) → pictures m ≡ pictures n → (t : Bool)
     → pictures (judged-block i (cond t (done x) (bad k)) m) ≡ pictures (judged-block i (cond t (done y) (bad k)) n)
 unfolding judged-block
-same-one i k x y e m n f true = pictures-after x m ∙ (λ j. after (e j) (f j)) ∙ sym (pictures-after y n)
+same-one i k x y e m n f true = λ j. (e j ∷ f j .0, f j .1)
 same-one i k x y e m n f false = refl
 
 -- the records before any end
-pub same-pictures : (i : ℕ) (bs : List Block) (end : Records Block) → Each (Plain 2) (length bs) bs
+pub same-pictures : (i : ℕ) (bs : List Block) (end : End) → Each (Plain 2) (length bs) bs
     → pictures (acted-on 2 i bs end) ≡ pictures (acted-on 1 i (map as-one bs) end)
-unfolding acted-on act left Each
+unfolding acted-on act done-by Each
 same-pictures i [] end h = refl
 same-pictures i (b ∷ bs) end h =
     let o = call 1 (as-one b) in
-    ap (λ (o : Outcome). pictures (judged-block i (left 2 b o) (acted-on 2 (suc i) bs end))) (same-call b (h .0))
-    ∙ same-one i (o .answer .number) _ _ refl (acted-on 2 (suc i) bs end) (acted-on 1 (suc i) (map as-one bs) end)
-    (same-pictures (suc i) bs end (h .1)) (eqb (o .answer .number) 0)
+    ap (λ (o : Outcome). pictures (judged-block i (done-by o (left 2 b o)) (acted-on 2 (suc i) bs end))) (same-call b (h .0))
+    ∙ same-one i (o .answer .number) (left 2 b o) (left 1 (as-one b) o) refl (acted-on 2 (suc i) bs end)
+    (acted-on 1 (suc i) (map as-one bs) end) (same-pictures (suc i) bs end (h .1)) (eqb (o .answer .number) 0)

@@ -4,26 +4,22 @@ use mathlib.Core.Bool.{Bool, true, false}
 use mathlib.Core.List.{List, [], _++_}
 use Prim.Native.Nat.{ℕ, _<_}
 use lib.ListN.{length}
+use Rattle.blockfile.specs.Record.{form}
 use Rattle.blockfile.specs.File.{records}
 use Rattle.jobs.specs.Task.{Written, ahead, Task, told, run}
 use Rattle.jobs.specs.Steps.{Place, outset, before, Step, wrote, wanted, closed}
 
--- what is left of bs after something of it was taken
-pub record Left (bs rest : List ℕ) : Type 0 where
-  pub front : List ℕ
-  pub is : bs ≡ front ++ rest
-
-module _ {R S : Type 0} (t : Task R S) where
+module _ {S : Type 0} (t : Task S) where
   -- what is written from a place on, of the bytes bs
   unfoldable pub remaining : Place S → List ℕ → Written
   unfolding run told records
   remaining outset bs = run t bs
-  remaining (before v i s) bs = told t v i s (records (t .form v) i bs)
+  remaining (before v i s) bs = told t v i s (records (form v) i bs .0) (records (form v) i bs .1)
 
   -- The bytes at hand are bs, and `more` is yet to come. What was written is the first of what is left to write, and the bytes that are
   -- left go on with what comes; more bytes are wanted only before the last, and where fewer are there than a record can take; and what
   -- closes a run is all that is left, if nothing comes after the last.
   abbrev pub Follows : Bool → Place S → List ℕ → Step S → Type 0
-  Follows last p bs (wrote w q rest) = ((more : List ℕ) → remaining p (bs ++ more) ≡ ahead w (remaining q (rest ++ more))) × Left bs rest
+  Follows last p bs (wrote w q rest) = (more : List ℕ) → remaining p (bs ++ more) ≡ ahead w (remaining q (rest ++ more))
   Follows last p bs wanted = (last ≡ false) × (length bs < 10265)
   Follows last p bs (closed w) = (more : List ℕ) → (last ≡ true → more ≡ []) → remaining p (bs ++ more) ≡ w

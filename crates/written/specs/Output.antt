@@ -7,7 +7,7 @@ use Prim.Native.Nat.{ℕ}
 use lib.ListN.{length}
 use Rattle.jobs.specs.Task.{Written, both, nothing, ahead, Task, run}
 
-module _ {R S : Type 0} (t : Task R S) where
+module _ {S : Type 0} (t : Task S) where
   -- whatever follows `past`, this comes next after so many bytes
   pub record NextOf (past : List ℕ) (sent said : ℕ) (w : Written) : Type 0 where
     pub earlier : Written
@@ -24,15 +24,11 @@ module _ {R S : Type 0} (t : Task R S) where
     pub is : (more : List ℕ) → (has-ended ≡ true → more ≡ []) → run t (past ++ more) ≡ ahead earlier w
 
   -- `past` is what was read
-  pub record Next (read sent said : ℕ) (out err : List ℕ) : Type 0 where
-    pub past : List ℕ
-    pub read-is : length past ≡ read
-    pub next : NextOf past sent said (both out err)
+  abbrev pub Next : ℕ → ℕ → ℕ → List ℕ → List ℕ → Type 0
+  Next read sent said out err = (past : List ℕ) × ((length past ≡ read) × NextOf past sent said (both out err))
 
-  pub record Last (has-ended : Bool) (read sent said : ℕ) (out err : List ℕ) : Type 0 where
-    pub past : List ℕ
-    pub read-is : length past ≡ read
-    pub last : LastOf has-ended past sent said (both out err)
+  abbrev pub Last : Bool → ℕ → ℕ → ℕ → List ℕ → List ℕ → Type 0
+  Last has-ended read sent said out err = (past : List ℕ) × ((length past ≡ read) × LastOf has-ended past sent said (both out err))
 
   -- what was handed on of an input, part by part: each comes next after those before it, by what was read till then
   pub data Handed (input : List ℕ) : Written → Type 0 where

@@ -3,7 +3,7 @@ use mathlib.Core.Path.{_≡_}
 use mathlib.Core.List.{List, map}
 use Prim.Native.Nat.{ℕ}
 use Rattle.blockfile.specs.Record.{Block}
-use Rattle.blockfile.specs.File.{Records, all, before, file, read-blocks}
+use Rattle.blockfile.specs.File.{here, Records, file, read-blocks}
 use Rattle.jobs.specs.Rows.{spread}
 use Rattle.jobs.specs.Task.{Written}
 
@@ -17,25 +17,19 @@ as-one b =
       pixels = b .pixels;
     }
 
--- the records themselves, without what ends them
-abbrev pub listed : {R : Type 0} → Records R → List R
-listed (all rs) = rs
-listed (before rs i k) = rs
-
 abbrev pub pixels-of : List Block → List (List ℕ)
 pixels-of = map (λ b. b .pixels)
 
--- the pixels of each record, up to a refusal: with its record's number and its own
+-- the pixels of each record, and how the records end
 abbrev pub pictures : Records Block → Records (List ℕ)
-pictures (all bs) = all (pixels-of bs)
-pictures (before bs i k) = before (pixels-of bs) i k
+pictures m = (pixels-of (m .0), m .1)
 
 -- Two runs, one that writes a file of version v and one of version u: both outputs can be read, their records have the same pixels, and standard
 -- error says the same.
 pub record SamePixels (v u : ℕ) (one other : Written) : Type 0 where
   pub blocks : List Block
   pub others : List Block
-  pub reads : read-blocks (one .output) ≡ file v (all blocks)
-  pub other-reads : read-blocks (other .output) ≡ file u (all others)
+  pub reads : read-blocks (one .output) ≡ file v (blocks, here)
+  pub other-reads : read-blocks (other .output) ≡ file u (others, here)
   pub pixels : pixels-of blocks ≡ pixels-of others
   pub error : one .error ≡ other .error

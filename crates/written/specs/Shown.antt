@@ -3,35 +3,28 @@ use mathlib.Core.List.{List, [], _∷_}
 use Prim.Native.Nat.{ℕ, suc}
 use Rattle.text.specs.Text.{refused-line}
 use Rattle.blockfile.specs.Record.{Block}
-use Rattle.blockfile.specs.File.{Records, all, before, after, File, unknown, file, write-blocks}
+use Rattle.blockfile.specs.File.{End, refused-at, Records, File, unknown, file, write-blocks}
 use Rattle.jobs.specs.Task.{Written, both, Done, done, bad}
-use Rattle.jobs.specs.Act.{act}
+use Rattle.jobs.specs.Act.{act, said}
 
--- the records that are left, up to a refusal of one of them, or of what follows them
+-- the records that are left, up to a refusal of one of them, or to the end of the file
 unfoldable pub judged-block : ℕ → Done Block → Records Block → Records Block
-unfolding after
-judged-block i (done b) others = after b others
-judged-block i (bad k) others = before [] i k
+judged-block i (done b) others = (b ∷ others .0, others .1)
+judged-block i (bad k) others = ([], refused-at i k)
 
-unfoldable pub acted-on : ℕ → ℕ → List Block → Records Block → Records Block
+unfoldable pub acted-on : ℕ → ℕ → List Block → End → Records Block
 unfolding judged-block act
-acted-on v i [] end = end
+acted-on v i [] end = ([], end)
 acted-on v i (b ∷ bs) end = judged-block i (act v b) (acted-on v (suc i) bs end)
-
--- what is left of the records of a file: they are read to its end, or up to record j, which is refused by k
-abbrev pub acted-file : ℕ → Records Block → Records Block
-acted-file v (all bs) = acted-on v 1 bs (all [])
-acted-file v (before bs j k) = acted-on v 1 bs (before [] j k)
 
 -- "the first number, if accepted, and the records before it stand in the output, nothing of the refused one does, and standard error gets one
 -- line" (E1)
 unfoldable pub shown : ℕ → Records Block → Written
-unfolding write-blocks refused-line
-shown v (all cs) = both (write-blocks v cs) []
-shown v (before cs i k) = both (write-blocks v cs) (refused-line i k)
+unfolding write-blocks said
+shown v rs = both (write-blocks v (rs .0)) (said (rs .1))
 
 -- "0 for the first number"
-unfoldable pub shown-file : File Block → Written
+unfoldable pub shown-file : File → Written
 unfolding shown
 shown-file (unknown k) = both [] (refused-line 0 k)
-shown-file (file v rs) = shown v (acted-file v rs)
+shown-file (file v rs) = shown v (acted-on v 1 (rs .0) (rs .1))

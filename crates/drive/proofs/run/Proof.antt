@@ -1,13 +1,13 @@
 -- `drive::run` is safe and ends, and hands on what the job writes of its input, each part once and in its place. The measure is the number of turns
 -- that are left.
-use mathlib.Core.Path.{_≡_, sym, subst, _∙_}
+use mathlib.Core.Path.{_≡_, subst}
 use mathlib.Core.Bool.{true}
 use mathlib.Core.Logic.{⊎-elim}
 use mathlib.Core.List.{List}
 use Prim.Native.Nat.{ℕ, _+_, _-_, _*_, _≤_, _<_}
 use native.Mathlib.Omega.{arith}
 use borrow.Author.Needs.{needs}
-use lib.ListN.{length, take, length-take, length-drop}
+use lib.ListN.{length, length-take}
 use Rattle.jobs.specs.Steps.{mind}
 use Rattle.jobs.specs.Stepping.{Minds, place-at}
 use Rattle.jobs.specs.Jobs.{Mind, task-of}
@@ -24,14 +24,11 @@ record Held (job : Job) (input output error sums : List ℕ) (at have put told v
   thought : Mind job
   runs : Running (task-of job) input output error at have put told read sent said (place-at version i thought)
   minds : Minds job sums (mind (task-of job) (place-at version i thought))
-  counted : i + turns ≤ 140737488355328
-  read-few : read + turns * 32768 ≤ 4611686018427387904
-  sent-few : sent + turns * 32768 ≤ 4611686018427387904
-  said-few : said + turns * 49152 ≤ 6917529027641081856
-  input-length : 32768 ≡ length input
-  output-length : 32768 ≡ length output
-  error-length : 49152 ≡ length error
-  sums-length : 276 ≡ length sums
+  -- no count outgrows its 64 bits
+  few : (i + turns ≤ 140737488355328) × ((read + turns * 32768 ≤ 4611686018427387904)
+      × ((sent + turns * 32768 ≤ 4611686018427387904) × (said + turns * 49152 ≤ 6917529027641081856)))
+  input-size : 32768 ≡ length input
+  sizes : (32768 ≡ length output) × ((49152 ≡ length error) × (276 ≡ length sums))
 
 abbrev Inv-loop : tie.InvT-loop
 Inv-loop job input₀ output₀ error₀ sums₀ at₀ have₀ put₀ told₀ version₀ record₀ read₀ sent₀ said₀ is-last₀ turns₀ input output
@@ -57,14 +54,8 @@ err c = c .step .last .1 .1 .1 .1 .1 .1 .1 .1 .1 .0
 abbrev sums : tie.After-step Inv-loop μ-loop → List ℕ
 sums c = c .step .last .1 .1 .1 .1 .1 .1 .0
 
-same-output : (c : tie.After-step Inv-loop μ-loop) → 32768 ≡ length (out c)
-same-output c = omega (arith, top c .loop .inv .output-length, c .step .kept)
-
-same-error : (c : tie.After-step Inv-loop μ-loop) → 49152 ≡ length (err c)
-same-error c = omega (arith, top c .loop .inv .error-length, c .step .kept)
-
-same-sums : (c : tie.After-step Inv-loop μ-loop) → 276 ≡ length (sums c)
-same-sums c = omega (arith, top c .loop .inv .sums-length, c .step .kept)
+same-sizes : (c : tie.After-step Inv-loop μ-loop) → (32768 ≡ length (out c)) × ((49152 ≡ length (err c)) × (276 ≡ length (sums c)))
+same-sizes c = omega (arith, top c .loop .inv .sizes, c .step .kept)
 
 abbrev Did : tie.After-step Inv-loop μ-loop → Turn → Type 0
 Did c = let l = top c .loop in After (top c .before .args .job) (l .version) (l .«record») (l .inv .thought) (l .inv .runs)
@@ -73,9 +64,8 @@ Did c = let l = top c .loop in After (top c .before .args .job) (l .version) (l 
 did : (c : tie.After-step Inv-loop μ-loop) → Did c (c .step .result)
 did c =
     let l = top c .loop in
-    after (top c .before .args .job) (l .version) (l .«record») (l .inv .thought) (l .inv .runs) (l .is-last) (sums c) (out c) (err c)
-    (sym (same-output c) ∙ l .inv .output-length) (sym (same-error c) ∙ l .inv .error-length) (l .sums) (l .inv .minds)
-    (c .step .result) (c .step .ensures (l .inv .thought))
+    after (top c .before .args .job) (l .version) (l .«record») (l .inv .thought) (l .inv .runs) (l .is-last) (sums c) (out c) (err c) (l .sums)
+    (l .inv .minds) (c .step .result) (c .step .ensures (l .inv .thought))
 
 -- something was written
 abbrev step1 : tie.After-known-told Inv-loop μ-loop → tie.After-step Inv-loop μ-loop
@@ -118,23 +108,17 @@ abbrev front : tie.After-fill Inv-loop μ-loop → tie.After-to-front Inv-loop �
 front c = c .before .before .before
 
 same-input : (c : tie.After-fill Inv-loop μ-loop) → 32768 ≡ length (c .fill .last .0)
-same-input c = omega (arith, top (step3 (wanted (front c))) .loop .inv .input-length, front c .to-front .kept, c .fill .kept)
+same-input c = omega (arith, top (step3 (wanted (front c))) .loop .inv .input-size, front c .to-front .kept, c .fill .kept)
 
 loop-holds : tie.Need-loop-holds Inv-loop μ-loop
-loop-holds c =
-    record {
-      thought = task-of (c .args .job) .start;
-      runs = begin (task-of (c .args .job)) _ _ _;
-      minds = minds-none (c .args .job);
-      counted = omega arith;
-      read-few = omega arith;
-      sent-few = omega arith;
-      said-few = omega arith;
-      input-length = search needs;
-      output-length = search needs;
-      error-length = search needs;
-      sums-length = search needs;
-    }
+loop-holds c = record {
+  thought = task-of (c .args .job) .start;
+  runs = begin (task-of (c .args .job)) _ _ _;
+  minds = minds-none (c .args .job);
+  few = omega arith;
+  input-size = search needs;
+  sizes = (search needs, (search needs, search needs));
+}
 
 loop-again : tie.Need-loop-again Inv-loop μ-loop
 loop-again c =
@@ -144,14 +128,9 @@ loop-again c =
       thought = x .0;
       runs = x .1 .0;
       minds = x .1 .1;
-      counted = omega (arith, l .inv .counted);
-      read-few = omega (arith, l .inv .read-few);
-      sent-few = omega (arith, l .inv .sent-few);
-      said-few = omega (arith, l .inv .said-few);
-      input-length = l .inv .input-length;
-      output-length = same-output s;
-      error-length = same-error s;
-      sums-length = same-sums s;
+      few = omega (arith, l .inv .few);
+      input-size = l .inv .input-size;
+      sizes = same-sizes s;
     }
 
 fill-requires : tie.Need-fill-requires Inv-loop μ-loop
@@ -160,7 +139,7 @@ fill-requires c κs =
       arith,
       f .to-front .ensures .count,
       few (wanted f) (f .before .before .if2 .taken),
-      top (step3 (wanted f)) .loop .inv .input-length,
+      top (step3 (wanted f)) .loop .inv .input-size,
       f .to-front .kept,
     )
 
@@ -173,7 +152,11 @@ add-read : tie.Need-add-read Inv-loop μ-loop
 add-read c =
     let f = c .before .before .before .before in
     let n = subst (InBuffer _ _) (c .before .filled .given .1) (f .fill .ensures .inside) in
-    omega (arith, n .0, n .1, top (step3 (wanted (front f))) .loop .inv .read-few, same-input f)
+    omega (arith, n .0, n .1, top (step3 (wanted (front f))) .loop .inv .few, same-input f)
+
+-- what was held was handed on, and nothing or so much more was read
+flushed-few : (c : tie.At-match-came Inv-loop μ-loop) → let l = top (step3 c) .loop in (l .put ≤ 32768) × (l .told ≤ 49152)
+flushed-few c = omega (arith, still c .0 .room, still c .0 .error-room, same-sizes (step3 c))
 
 loop-again-2 : tie.Need-loop-again-2 Inv-loop μ-loop
 loop-again-2 c =
@@ -183,14 +166,9 @@ loop-again-2 c =
       thought = l .inv .thought;
       runs = filled (task-of (top s .before .args .job)) (moved (front f)) (f .fill .ensures .kept) (n .0) (n .1);
       minds = still w .1;
-      counted = omega (arith, l .inv .counted);
-      read-few = omega (arith, l .inv .read-few, n .0, n .1, same-input f);
-      sent-few = omega (arith, l .inv .sent-few, still w .0 .room, same-output s);
-      said-few = omega (arith, l .inv .said-few, still w .0 .error-room, same-error s);
-      input-length = same-input f;
-      output-length = same-output s;
-      error-length = same-error s;
-      sums-length = same-sums s;
+      few = omega (arith, l .inv .few, n .0, n .1, same-input f, flushed-few w);
+      input-size = same-input f;
+      sizes = same-sizes s;
     }
 
 loop-again-3 : tie.Need-loop-again-3 Inv-loop μ-loop
@@ -200,14 +178,9 @@ loop-again-3 c =
       runs = as-before (task-of (top s .before .args .job)) (moved (front f)) (f .fill .ensures .kept)
           (omega (arith, moved (front f) .inside, f .fill .kept));
       minds = still w .1;
-      counted = omega (arith, l .inv .counted);
-      read-few = omega (arith, l .inv .read-few);
-      sent-few = omega (arith, l .inv .sent-few, still w .0 .room, same-output s);
-      said-few = omega (arith, l .inv .said-few, still w .0 .error-room, same-error s);
-      input-length = same-input f;
-      output-length = same-output s;
-      error-length = same-error s;
-      sums-length = same-sums s;
+      few = omega (arith, l .inv .few, flushed-few w);
+      input-size = same-input f;
+      sizes = same-sizes s;
     }
 
 loop-again-4 : tie.Need-loop-again-4 Inv-loop μ-loop
@@ -216,14 +189,9 @@ loop-again-4 c =
       thought = l .inv .thought;
       runs = flushed (task-of (top s .before .args .job)) (still w .0);
       minds = still w .1;
-      counted = omega (arith, l .inv .counted);
-      read-few = omega (arith, l .inv .read-few);
-      sent-few = omega (arith, l .inv .sent-few, still w .0 .room, same-output s);
-      said-few = omega (arith, l .inv .said-few, still w .0 .error-room, same-error s);
-      input-length = l .inv .input-length;
-      output-length = same-output s;
-      error-length = same-error s;
-      sums-length = same-sums s;
+      few = omega (arith, l .inv .few, flushed-few w);
+      input-size = l .inv .input-size;
+      sizes = same-sizes s;
     }
 
 pub run-spec : {M : Type 1} → statement M
@@ -231,10 +199,10 @@ run-spec =
     tie.close (tie.spec Inv-loop μ-loop loop-holds (λ c. search needs) (λ c. search needs)
     (λ c. simp length-take (omega arith)) (λ c. search needs) (λ c. search needs) (λ c. search needs)
     (λ c κs. search needs) (λ c. search needs) (λ c. search needs) (λ c. search needs) loop-again (λ c. search needs)
-    (λ c. omega (arith, last c .0, same-output (step2 c)))
-    (λ c. simp length-take (omega (arith, last (c .before) .0, same-output (step2 (c .before)))))
-    (λ c. omega (arith, last (c .before) .1 .0, same-error (step2 (c .before))))
-    (λ c. simp length-take (omega (arith, last (c .before .before) .1 .0, same-error (step2 (c .before .before)))))
+    (λ c. omega (arith, last c .0, same-sizes (step2 c)))
+    (λ c. simp length-take (omega (arith, last (c .before) .0, same-sizes (step2 (c .before)))))
+    (λ c. omega (arith, last (c .before) .1 .0, same-sizes (step2 (c .before))))
+    (λ c. simp length-take (omega (arith, last (c .before .before) .1 .0, same-sizes (step2 (c .before .before)))))
     (λ c κs. last (c .before .before) .1 .1) (λ c. search needs) (λ c. search needs) (λ c. search needs) (λ c. search needs)
     (λ c. simp length-take (omega (arith, still (c .before) .0 .room))) (λ c. search needs)
     (λ c. simp length-take (omega (arith, still (c .before .before) .0 .error-room)))

@@ -1,10 +1,11 @@
 -- `number::read_number` meets its contract: the invariant is `Reading`.
-use mathlib.Core.Path.{_∙_}
+use mathlib.Core.Path.{sym, subst}
 use Prim.Native.Nat.{ℕ, _+_, _-_, _*_}
 use native.Mathlib.Omega.{arith}
 use lib.ListN.{getD}
 use mir.Syntax.{w32}
 use mir.Val.{Fits}
+use Rattle.blockfile.specs.Inner.{NumberAt}
 use Rattle.blockfile.proofs.Walk.{Reading, start, ended, highest-last, highest-large, later-last, go-on, fits-highest, fits-later, scale-most}
 use Rattle.blockfile.proofs.number.read_number.Statement.{statement}
 use Rattle.blockfile.proofs.number.read_number.Tie as tie
@@ -25,7 +26,8 @@ group c = getD (top c .before .before .args .s .now) (top c .loop .i) 0
 returns-2 : tie.Need-returns-2 Inv-loop μ-loop
 returns-2 c =
     let b = c .before .before .before in
-    c .last-group .ensures ∙ highest-last (top b .loop .inv) (b .before .if1 .left) (c .before .before .if2 .taken) (c .before .if3 .taken)
+    subst (NumberAt _ _) (sym (c .last-group .ensures))
+    (highest-last (top b .loop .inv) (b .before .if1 .left) (c .before .before .if2 .taken) (c .before .if3 .taken))
 
 returns-3 : tie.Need-returns-3 Inv-loop μ-loop
 returns-3 c =
@@ -34,7 +36,8 @@ returns-3 c =
 returns-4 : tie.Need-returns-4 Inv-loop μ-loop
 returns-4 c =
     let b = c .before .before .before in
-    c .last-group2 .ensures ∙ later-last (top b .loop .inv) (b .before .if1 .left) (c .before .before .if2 .left) (c .before .if4 .taken)
+    subst (NumberAt _ _) (sym (c .last-group2 .ensures))
+    (later-last (top b .loop .inv) (b .before .if1 .left) (c .before .before .if2 .left) (c .before .if4 .taken))
 
 -- the group's share fits with what came before
 shares : (c : tie.Else4 Inv-loop μ-loop) → let b = c .before .before in Fits w32 (top b .loop .value + (group b - 128) * top b .loop .scale)

@@ -1,14 +1,14 @@
 -- `samples::read_coefficients` meets its contract: the invariant is `Filling`.
-use mathlib.Core.Path.{_≡_, sym, _∙_}
+use mathlib.Core.Path.{_≡_, subst}
 use Prim.Native.Nat.{_-_}
 use mir.Syntax.{w32}
 use mir.Val.{toZ, ofZ}
 use mir.ValLaws.{toZ-ofZ}
 use native.Mathlib.Omega.{arith}
 use borrow.Author.Needs.{needs}
-use Rattle.blockfile.specs.Zigzag.{zag}
 use Rattle.blockfile.specs.Record.{coefficient}
-use Rattle.blockfile.proofs.Fill.{Took, took, Missed, missed, Filling, begin, ended, refusing, one-more, coefficient-got, coefficient-refused}
+use Rattle.blockfile.specs.Inner.{NumberAt}
+use Rattle.blockfile.proofs.Fill.{Filling, begin, ended, refusing, one-more}
 use Rattle.blockfile.proofs.samples.read_coefficients.Statement.{statement}
 use Rattle.blockfile.proofs.samples.read_coefficients.Tie as tie
 
@@ -22,33 +22,24 @@ abbrev μ-loop : tie.MeasureT-loop
 abbrev top : tie.After-read-number Inv-loop μ-loop → tie.At-loop Inv-loop μ-loop
 top c = c .before .before
 
--- what is known where a number was got, and where none was
-got-here : (c : tie.After-known-told Inv-loop μ-loop) → let r = c .before .before .before in
-    Took (top r .before .before .args .s .now) (top r .loop .p) (c .before .number .given .0 .0) (c .before .number .given .0 .1 .0)
-got-here c = took _ _ _ _ (sym (c .before .number .given .1) ∙ c .before .before .before .read-number .ensures)
-
-missed-here : (c : tie.After-known-told2 Inv-loop μ-loop)
-    → let r = c .before .before .before in Missed (top r .before .before .args .s .now) (top r .loop .p) (c .before .number2 .given .0 .0)
-missed-here c = missed _ _ _ (sym (c .before .number2 .given .1) ∙ c .before .before .before .read-number .ensures)
-
 returns : tie.Need-returns Inv-loop μ-loop
+unfolding coefficient
 returns c =
-    refusing coefficient _ _ _ _ (top (c .before .before .before) .loop .inv) _ (c .before .before .before .before .loop-test .taken)
-    (coefficient-refused (missed-here c))
-
--- the coefficient that is stored is the number's
-stored : (c : tie.After-coefficient-of Inv-loop μ-loop) → zag (c .before .before .number .given .0 .0) ≡ toZ w32 (ofZ w32 (c .coefficient-of .result))
-stored c = sym (c .coefficient-of .ensures) ∙ sym (toZ-ofZ w32 (c .coefficient-of .result) (record { sfits = c .coefficient-of .ok }))
+    let r = c .before .before .before in let m = subst (NumberAt _ _) (c .before .number2 .given .1) (r .read-number .ensures) in
+    refusing coefficient _ _ _ _ (top r .loop .inv) (r .before .loop-test .taken) (rw m)
 
 loop-again : tie.Need-loop-again Inv-loop μ-loop
+unfolding coefficient
 loop-again c =
-    one-more coefficient _ _ _ _ (top (c .before .before .before .before) .loop .inv) _ _
-    (c .before .before .before .before .before .loop-test .taken) (got-here (c .before) .inside)
-    (coefficient-got (got-here (c .before)) (stored c))
+    let r = c .before .before .before .before in let t = subst (NumberAt _ _) (c .before .before .number .given .1) (r .read-number .ensures) in
+    let z = c .coefficient-of .result in
+    let same : toZ w32 (ofZ w32 z) ≡ z = toZ-ofZ w32 z (record { sfits = c .coefficient-of .ok }) in
+    one-more coefficient _ _ _ _ (top r .loop .inv) (r .before .loop-test .taken)
+    (record { read = rw (t .read, same, c .coefficient-of .ensures); inside = t .inside })
 
 pub read-coefficients-spec : {M : Type 1} → statement M
 read-coefficients-spec =
-    tie.close (tie.spec Inv-loop μ-loop (λ c. begin coefficient _ _ _ _ (c .before .pre .0)) (λ c κs. tt)
+    tie.close (tie.spec Inv-loop μ-loop (λ c. begin coefficient _ _ _ _ (c .before .pre .0) (c .before .pre .1)) (λ c κs. tt)
     (λ c. search needs) (λ c κs. tt) (λ c. search needs) (λ c. search needs) (λ c. search needs)
     (λ c. top (c .before .before .before) .loop .inv .same-length)
     returns (λ c. omega arith) (λ c. omega arith) loop-again (λ c. c .before .loop .inv .same-length)

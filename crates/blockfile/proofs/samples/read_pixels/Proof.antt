@@ -1,10 +1,12 @@
 -- `samples::read_pixels` meets its contract: the invariant is `Filling`.
-use mathlib.Core.Path.{sym, _∙_}
+use mathlib.Core.Path.{subst}
 use Prim.Native.Nat.{_-_}
 use native.Mathlib.Omega.{arith}
 use borrow.Author.Needs.{needs}
+use borrow.Author.Tests.{le-leb, lt-leb}
 use Rattle.blockfile.specs.Record.{pixel}
-use Rattle.blockfile.proofs.Fill.{Took, took, Missed, missed, Filling, begin, ended, refusing, one-more, pixel-got, pixel-large, pixel-refused}
+use Rattle.blockfile.specs.Inner.{NumberAt}
+use Rattle.blockfile.proofs.Fill.{Filling, begin, ended, refusing, one-more}
 use Rattle.blockfile.proofs.samples.read_pixels.Statement.{statement}
 use Rattle.blockfile.proofs.samples.read_pixels.Tie as tie
 
@@ -18,35 +20,29 @@ abbrev μ-loop : tie.MeasureT-loop
 abbrev top : tie.After-read-number Inv-loop μ-loop → tie.At-loop Inv-loop μ-loop
 top c = c .before .before
 
--- what is known where a number was got, and where none was
-got-here : (c : tie.After-known-told Inv-loop μ-loop) → let r = c .before .before .before in
-    Took (top r .before .before .before .args .s .now) (top r .loop .p) (c .before .number .given .0 .0)
-    (c .before .number .given .0 .1 .0)
-got-here c = took _ _ _ _ (sym (c .before .number .given .1) ∙ c .before .before .before .read-number .ensures)
-
-missed-here : (c : tie.After-known-told2 Inv-loop μ-loop)
-    → let r = c .before .before .before in Missed (top r .before .before .before .args .s .now) (top r .loop .p) (c .before .number2 .given .0 .0)
-missed-here c = missed _ _ _ (sym (c .before .number2 .given .1) ∙ c .before .before .before .read-number .ensures)
-
 returns : tie.Need-returns Inv-loop μ-loop
+unfolding pixel
 returns c =
-    refusing pixel _ _ _ _ (top (c .before .before .before .before) .loop .inv) 19 (c .before .before .before .before .before .loop-test .taken)
-    (pixel-large (got-here (c .before)) (c .if1 .taken))
+    let r = c .before .before .before .before in let t = subst (NumberAt _ _) (c .before .before .number .given .1) (r .read-number .ensures) in
+    refusing pixel _ _ _ _ (top r .loop .inv) (r .before .loop-test .taken) (rw (t .read, lt-leb _ 65535 (c .if1 .taken)))
 
 returns-2 : tie.Need-returns-2 Inv-loop μ-loop
+unfolding pixel
 returns-2 c =
-    refusing pixel _ _ _ _ (top (c .before .before .before) .loop .inv) _ (c .before .before .before .before .loop-test .taken)
-    (pixel-refused (missed-here c))
+    let r = c .before .before .before in let m = subst (NumberAt _ _) (c .before .number2 .given .1) (r .read-number .ensures) in
+    refusing pixel _ _ _ _ (top r .loop .inv) (r .before .loop-test .taken) (rw m)
 
 loop-again : tie.Need-loop-again Inv-loop μ-loop
+unfolding pixel
 loop-again c =
-    one-more pixel _ _ _ _ (top (c .before .before .before .before) .loop .inv) _ _ (c .before .before .before .before .before .loop-test .taken)
-    (got-here (c .before) .inside) (pixel-got (got-here (c .before)) (c .if1 .left))
+    let r = c .before .before .before .before in let t = subst (NumberAt _ _) (c .before .before .number .given .1) (r .read-number .ensures) in
+    one-more pixel _ _ _ _ (top r .loop .inv) (r .before .loop-test .taken)
+    (record { read = rw (t .read, le-leb _ 65535 (c .if1 .left)); inside = t .inside })
 
 pub read-pixels-spec : {M : Type 1} → statement M
 read-pixels-spec =
-    tie.close (tie.spec Inv-loop μ-loop (λ c. begin pixel _ _ _ _ (c .before .before .pre .0)) (λ c κs. tt) (λ c. search needs)
-    (λ c. top (c .before .before .before .before) .loop .inv .same-length)
+    tie.close (tie.spec Inv-loop μ-loop (λ c. begin pixel _ _ _ _ (c .before .before .pre .0) (c .before .before .pre .1)) (λ c κs. tt)
+    (λ c. search needs) (λ c. top (c .before .before .before .before) .loop .inv .same-length)
     returns (λ c. search needs) (λ c. search needs) (λ c. search needs) (λ c. search needs)
     (λ c. top (c .before .before .before) .loop .inv .same-length)
     returns-2 (λ c. omega arith) (λ c. omega arith) loop-again (λ c. c .before .loop .inv .same-length)

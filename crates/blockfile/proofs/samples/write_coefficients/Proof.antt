@@ -7,7 +7,7 @@ use lib.IntN.{pos}
 use lib.ListN.{length, getD}
 use mir.Syntax.{w32}
 use mir.ValLaws.{toZ-ofZ}
-use Rattle.blockfile.specs.Number.{write-number}
+use Rattle.blockfile.specs.Form.{number}
 use Rattle.blockfile.specs.Zigzag.{zig}
 use Rattle.blockfile.specs.Record.{coefficient}
 use Rattle.blockfile.proofs.Numbers.{number-short}
@@ -34,7 +34,7 @@ unfolding coefficient
 loop-again c =
     let n = c .before .before .before .before in
     one-more coefficient _ _ _ (n .before .before .before .loop .inv) (pos 0) _ (n .before .before .loop-test .taken)
-    (ap write-number (same-value n)) (number-short (n .number-of .result)) (c .before .before .write-number .ensures)
+    (ap (number .write) (same-value n)) (number-short (n .number-of .result)) (c .before .before .write-number .ensures)
 
 pub write-coefficients-spec : {M : Type 1} → statement M
 write-coefficients-spec =

@@ -1,51 +1,47 @@
 -- `step::begin` meets its contract: the first number was not got, is neither 1 nor 2, or is told.
-use mathlib.Core.Path.{sym, ap, _∙_}
+use mathlib.Core.Path.{_≡_, sym, ap, subst, _∙_}
+use mathlib.Core.Bool.{true}
 use native.Mathlib.Omega.{arith}
 use borrow.Author.Tests.{not-true, not-false}
-use Rattle.blockfile.specs.Inner.{number-refusal}
-use Rattle.blockfile.proofs.Fill.{Took, took, missed}
-use Rattle.jobs.proofs.Turns.{no-first, unknown-first, number-first, silent-first}
+use Rattle.blockfile.specs.Read.{refused}
+use Rattle.blockfile.specs.Form.{number}
+use Rattle.blockfile.specs.File.{known}
+use Rattle.blockfile.specs.Inner.{Took, NumberAt, number-refusal}
+use Rattle.jobs.proofs.Turns.{put-none, no-first, unknown-first, known-first}
 use borrow.Author.Needs.{needs}
 use Rattle.jobs.proofs.step.begin.Statement.{statement}
 use Rattle.jobs.proofs.step.begin.Tie as tie
 
 t1 : (c : tie.After-known-told) → let a = c .before .before .before .before .before .before .before .args in
-    Took (a .input .now) (a .at) (c .before .first .given .0 .0) (c .before .first .given .0 .1 .0)
-t1 c = took _ _ _ _ (sym (c .before .first .given .1) ∙ c .before .before .before .read-number .ensures)
+    Took number (a .input .now) (a .at) (c .before .first .given .0 .0) (c .before .first .given .0 .1 .0)
+t1 c = subst (NumberAt _ _) (c .before .first .given .1) (c .before .before .before .read-number .ensures)
+
+is-known : (c : tie.Else1) → known (c .before .before .before .first .given .0 .0) ≡ true
+is-known c = sym (c .before .is-known .ensures) ∙ not-false (c .before .is-known .result) (c .if1 .left)
 
 returns : tie.Need-returns
 returns c =
-    let a = c .before .before .before .before .before .before .before .before .before .before .before .before .before .before .args in
-    let told = c .before .before .before .before .before .before .before .before .enum-told .given .1 in
-    λ sums. no-first (a .job) (a .is-last) sums
-    (missed _ _ _ (sym told ∙ c .before .before .before .before .before .before .before .before .before .before .read-number
-    .ensures)) (c .before .before .before .before .before .before .before .refusal .ensures ∙ ap number-refusal told)
-    (c .before .before .before .before .fallen .ensures)
+    let r = c .before .before .before .before .before .before .before in let m = r .before .enum-told .given .1 in
+    λ sums. no-first (subst (NumberAt _ _) m (r .before .before .before .read-number .ensures)
+    ∙ ap refused (sym (r .refusal .ensures ∙ ap number-refusal m))) (c .before .before .before .before .fallen .ensures)
 
 returns-2 : tie.Need-returns-2
 returns-2 c =
     let k = c .before .before .before .before .before .before .before .before in
-    let a = k .before .before .before .before .before .before .before .before .args in
-    λ sums. unknown-first (a .job) (a .is-last) sums (t1 (k .before))
-    (sym (k .is-known .ensures) ∙ not-true (k .is-known .result)
+    λ sums. unknown-first (t1 (k .before)) (sym (k .is-known .ensures) ∙ not-true (k .is-known .result)
     (c .before .before .before .before .before .before .before .if1 .taken)) (c .before .before .before .before .refuse .ensures)
 
 returns-3 : tie.Need-returns-3
 returns-3 c =
-    let k = c .before .before .before .before .before .before .before in let t = c .before .before .before .before .before in
-    let a = k .before .before .before .before .before .before .before .before .args in
-    λ sums. number-first (a .job) (a .is-last) sums (t1 (k .before))
-    (sym (k .is-known .ensures) ∙ not-false (k .is-known .result) (c .before .before .before .before .before .before .if1 .left))
-    (sym (t .is-totals .ensures) ∙ not-true (t .is-totals .result) (c .before .before .before .before .if2 .taken))
-    (omega arith) (c .before .before .write-number .ensures)
+    let t = c .before .before .before .before .before in let e = t .before in
+    λ sums. known-first (t1 (e .before .before)) (is-known e) (omega arith)
+    (rw (sym (t .is-totals .ensures) ∙ not-true (t .is-totals .result) (c .before .before .before .before .if2 .taken))
+    (c .before .before .write-number .ensures))
 
 returns-4 : tie.Need-returns-4
 returns-4 c =
-    let k = c .before .before .before in let t = c .before in
-    let a = k .before .before .before .before .before .before .before .before .args in
-    λ sums. silent-first (a .job) (a .is-last) sums (t1 (k .before))
-    (sym (k .is-known .ensures) ∙ not-false (k .is-known .result) (c .before .before .if1 .left))
-    (sym (t .is-totals .ensures) ∙ not-false (t .is-totals .result) (c .if2 .left)) (omega arith) (omega arith)
+    let t = c .before in let e = t .before in λ sums. known-first (t1 (e .before .before)) (is-known e) (omega arith)
+    (rw (sym (t .is-totals .ensures) ∙ not-false (t .is-totals .result) (c .if2 .left)) (put-none (omega arith)))
 
 pub begin-spec : {M : Type 1} → statement M
 begin-spec =

@@ -8,15 +8,13 @@ use Rattle.jobs.proofs.step.call_block.Tie as tie
 returns : tie.Need-returns
 returns c =
     let n = c .before .before .before .before .before .before .before .before in
-    let a = n .before .before .before .before .before .before .before .before .before .before .args in
-    refused-block (a .«record») (n .before .before .before .before .act .ensures) (n .number .ensures)
+    refused-block (n .before .before .before .before .act .ensures) (n .number .ensures) _ _
     (c .before .before .before .before .before .before .before .if1 .taken) (c .before .before .before .before .refuse .ensures)
 
 returns-2 : tie.Need-returns-2
 returns-2 c =
     let n = c .before .before .before .before .before .before .before in
-    let a = n .before .before .before .before .before .before .before .before .before .before .args in
-    done-block (a .«record») (n .before .before .before .before .act .ensures) (n .number .ensures)
+    done-block (n .before .before .before .before .act .ensures) (n .number .ensures) _ _
     (c .before .before .before .before .before .before .if1 .left) (omega arith) (c .before .before .write-record .ensures)
 
 pub call-block-spec : {M : Type 1} → statement M

@@ -1,7 +1,7 @@
 -- `step::count_block` meets its contract.
 use mathlib.Core.Path.{sym, _∙_}
 use native.Mathlib.Omega.{arith}
-use Rattle.jobs.proofs.Turns.{refused-count, done-count, can-count, kept-all, added-of}
+use Rattle.jobs.proofs.Turns.{refused-count, done-count, can-count, kept-all}
 use borrow.Author.Needs.{needs}
 use Rattle.jobs.proofs.step.count_block.Statement.{statement}
 use Rattle.jobs.proofs.step.count_block.Tie as tie
@@ -9,11 +9,8 @@ use Rattle.jobs.proofs.step.count_block.Tie as tie
 returns : tie.Need-returns
 returns c =
     let n = c .before .before .before .before .before .before .before .before in
-    let a = n .before .before .before .before .before .before .before .before .before .before .before .before .before .before
-    .before .before .before .args in
-    refused-count (a .«record») (n .before .before .before .before .act .ensures) (n .number .ensures) (a .most)
-    (c .before .before .before .before .before .before .before .if1 .taken) (a .sums .now)
-    (c .before .before .before .before .refuse .ensures)
+    refused-count (n .before .before .before .before .act .ensures) (n .number .ensures) _ _ _
+    (c .before .before .before .before .before .before .before .if1 .taken) _ (c .before .before .before .before .refuse .ensures)
 
 add-requires : tie.Need-add-requires
 add-requires c κs =
@@ -36,9 +33,9 @@ returns-2 c =
     let k = n .before .before .before .before .before .before .before .before .before in
     let s = k .before .before .before .before .before .before .before .before in let a = s .args in
     let same = kept-all (k .keep .last .1 .0) (a .pixels .now) (k .keep .ensures .0 ∙ sym (s .pre .1 .1 .0)) (k .keep .ensures .1) in
-    done-count (a .«record») (n .before .before .before .before .act .ensures) (n .number .ensures) (a .most)
+    done-count (n .before .before .before .before .act .ensures) (n .number .ensures) _ _ _
     (c .before .before .before .before .before .before .before .if1 .left) (omega arith) (omega arith)
-    (c .before .before .before .before .before .before .mark .ensures) (added-of same (c .before .before .add .ensures))
+    (c .before .before .before .before .before .before .mark .ensures) same (c .before .before .add .ensures)
 
 pub count-block-spec : {M : Type 1} → statement M
 count-block-spec =

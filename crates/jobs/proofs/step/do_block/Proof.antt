@@ -2,7 +2,6 @@
 use mathlib.Core.Path.{ap}
 use native.Mathlib.Omega.{arith}
 use lib.ListN.{length-take}
-use Rattle.jobs.specs.Inner.{block-of}
 use Rattle.jobs.specs.Stepping.{is-totals}
 use Rattle.jobs.proofs.Turns.{as-job, sane-at}
 use borrow.Author.Needs.{needs}
@@ -26,29 +25,18 @@ count-block-requires c κs =
 
 returns : tie.Need-returns
 returns c =
-    let a = c .before .before .before .before .before .before .before .before .before .before .before .before .before .before
-    .before .before .before .before .args in
-    as-job (a .job) _ (c .before .before .before .before .before .before .before .before .before .before .before .before
-    .enum-told .given .1) (a .version) (a .«record») (block-of (a .head) (a .coefficients .now) (a .pixels .now)) (a .next)
-    (a .sums .now) (a .output .now) (a .put) (a .error .now) (a .told) _ _ _ _
-    (c .before .before .before .before .before .before .before .call-block .ensures (a .sums .now))
+    as-job (c .before .before .before .before .before .before .before .before .before .before .before .before .enum-told .given .1)
+    (c .before .before .before .before .before .before .before .call-block .ensures _)
 
 returns-2 : tie.Need-returns-2
 returns-2 c =
-    let a = c .before .before .before .before .before .before .before .before .before .before .before .before .before .before .before .before .args in
-    as-job (a .job) _ (c .before .before .before .before .before .before .before .before .before .before .enum-told2 .given .1)
-    (a .version) (a .«record») (block-of (a .head) (a .coefficients .now) (a .pixels .now)) (a .next)
-    (a .sums .now) (a .output .now) (a .put) (a .error .now) (a .told) _ _ _ _
-    (c .before .before .before .before .before .mend-block .ensures (a .sums .now))
+    as-job (c .before .before .before .before .before .before .before .before .before .before .enum-told2 .given .1)
+    (c .before .before .before .before .before .mend-block .ensures _)
 
 returns-3 : tie.Need-returns-3
 returns-3 c =
-    let a = c .before .before .before .before .before .before .before .before .before .before .before .before .before .before
-    .before .before .before .before .before .before .before .before .before .before .args in
-    as-job (a .job) _ (c .before .before .before .before .before .before .before .before .before .before .before .before .before
-    .before .before .before .before .before .job .given .1) (a .version) (a .«record»)
-    (block-of (a .head) (a .coefficients .now) (a .pixels .now)) (a .next)
-    (a .sums .now) (a .output .now) (a .put) (a .error .now) (a .told) _ _ _ _
+    as-job (c .before .before .before .before .before .before .before .before .before .before .before .before .before
+    .before .before .before .before .before .job .given .1)
     (c .before .before .before .before .before .before .before .before .before .before .count-block .ensures)
 
 pub do-block-spec : {M : Type 1} → statement M

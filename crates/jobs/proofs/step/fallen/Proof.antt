@@ -4,8 +4,10 @@ use mathlib.Core.Path.{_≡_, refl, ap}
 use mathlib.Core.Bool.{Bool, true, false, not, _&&_}
 use lib.Dec.{eqb}
 use native.Mathlib.Omega.{arith}
-use borrow.Author.Tests.{ne-eqb, not-true}
-use Rattle.jobs.proofs.Turns.{falls-more, falls-refused}
+use borrow.Author.Tests.{eq-eqb, ne-eqb, not-true}
+use Rattle.jobs.specs.Jobs.{task-of}
+use Rattle.jobs.specs.Steps.{wanted, mind, falling}
+use Rattle.jobs.proofs.Turns.{put-both, put-none}
 use borrow.Author.Needs.{needs}
 use Rattle.jobs.proofs.step.fallen.Statement.{statement}
 use Rattle.jobs.proofs.step.fallen.Tie as tie
@@ -20,13 +22,17 @@ neither c =
     with-false false u e = refl
 
 returns : tie.Need-returns
-returns c = let a = c .before .before .before .before .args in
-    falls-more (a .job) (a .k) (a .is-last) (c .before .if1 .taken) (not-true (a .is-last) (c .if2 .taken)) (omega arith) (omega arith)
+unfolding falling
+returns c p n s =
+    let a = c .before .before .before .before .args in
+    rw (eq-eqb (a .k) 15 (c .before .if1 .taken), not-true (a .is-last) (c .if2 .taken))
+    (put-both wanted 0 (put-none (omega arith)) (put-none (omega arith)) tt)
 
 returns-2 : tie.Need-returns-2
-returns-2 c = let a = c .before .before .before .before .before .before .before .before .before .before .args in
-    falls-refused (a .job) (a .k) (a .is-last) (neither (c .before .before .before .before .before .before .before))
-    (c .before .before .before .before .refuse .ensures)
+unfolding falling
+returns-2 c p n s =
+    let j = c .before .before .before .before .before .before .before in
+    rw (neither j, n) (c .before .before .before .before .refuse .ensures (mind (task-of (j .before .before .before .args .job)) p) s)
 
 pub fallen-spec : {M : Type 1} → statement M
 fallen-spec = tie.close (tie.spec returns (λ c κs. search needs) (λ c. search needs) (λ c. search needs) returns-2)

@@ -14,13 +14,13 @@ put-report-requires c κs =
 returns : tie.Need-returns
 returns c =
     let t = c .before .before .before .before .before in let s = t .before .before .before .before in
-    ends-reported (s .args .sums .now) (s .args .job)
-    (sym (t .is-totals .ensures) ∙ c .before .before .before .before .if1 .taken) (omega arith) (c .before .before .put-report .ensures)
+    ends-reported (s .args .sums .now) (omega arith) (s .args .job)
+    (sym (t .is-totals .ensures) ∙ c .before .before .before .before .if1 .taken) (c .before .before .put-report .ensures)
 
 returns-2 : tie.Need-returns-2
 returns-2 c =
     let t = c .before in let s = t .before .before .before .before in
-    ends-silent (s .args .sums .now) (s .args .job) (sym (t .is-totals .ensures) ∙ c .if1 .left) (omega arith) (omega arith)
+    ends-silent (s .args .sums .now) (omega arith) (s .args .job) (sym (t .is-totals .ensures) ∙ c .if1 .left) (omega arith)
 
 pub finish-spec : {M : Type 1} → statement M
 finish-spec = tie.close (tie.spec (λ c κs. search needs) put-report-requires (λ c. search needs) returns returns-2)

@@ -6,9 +6,7 @@ use Rattle.jobs.proofs.step.mend_block.Tie as tie
 
 returns : tie.Need-returns
 returns c =
-    let a = c .before .before .before .before .before .before .before .before .before .before .before .before .before .before .args in
-    mended-block (a .version) (a .«record») (a .head) (a .pixels .now) (a .next)
-    (c .before .before .before .before .before .before .before .before .salvage .ensures) (c .before .before .write-record .ensures)
+    mended-block _ (c .before .before .before .before .before .before .before .before .salvage .ensures) (c .before .before .write-record .ensures)
 
 pub mend-block-spec : {M : Type 1} → statement M
 mend-block-spec =
