@@ -1,6 +1,6 @@
 -- Laws of a pass, each for every kind and every length.
 use mathlib.Core.Path.{_≡_, refl, sym, ap, _∙_, subst⁻¹}
-use mathlib.Core.Bool.{true, false, cond}
+use mathlib.Core.Bool.{true, false}
 use mathlib.Core.List.{List, [], _∷_, map}
 use Prim.Native.Nat.{ℕ, zero, suc, _+_, _*_, _-_, _^_, _≤_}
 use native.Mathlib.Nat.{le-trans}
@@ -22,7 +22,6 @@ use Rattle.av1.proofs.Adst.{adst-zero, adst-small}
 use Rattle.av1.proofs.Known as Known
 use Rattle.av1.proofs.Unclipped.{unclipped}
 use Rattle.av1.proofs.Zeros.{at-tab}
-use Rattle.levels.specs.Manners.{four-only}
 use Rattle.itx_1d.specs.Passes.{Passed, identity, wht, pass, av1-pass}
 use Rattle.itx_1d.specs.Passes as Passes
 use Rattle.itx_1d.proofs.Wht.{t0, t1, t2, t3}
@@ -185,6 +184,3 @@ module _ (n : Side) (m : ℕ) (xs : List ℤ) where
   pass-small Wht k l h i = wht-small (at xs 0) (at xs 1) (at xs 2) (at xs 3) k (h 0, (h 1, (h 2, (h 3, tt)))) i
   pass-small Adst k l h i = adst-small false xs k h i
   pass-small FlipAdst k l h i = adst-small true xs k h i
-
-  abbrev pub left : Kind → ℕ
-  left kind = cond (four-only kind) 4 (len n)
