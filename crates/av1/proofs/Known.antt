@@ -12,7 +12,8 @@ use Rattle.whole.specs.Numbers.{_>>_, round2, clip, outside}
 use Rattle.whole.specs.Lists.{at, tab}
 use Rattle.whole.specs.Both.{Both, none, one}
 use Rattle.whole.proofs.Clips.{clip-inside, clip-kept}
-use Rattle.levels.specs.Sides.{Side, of4, of8, of16, of32, len, bits}
+use Rattle.levels.specs.Sides.{Side, len, bits}
+use Rattle.av1.proofs.Sides.{by-side}
 use Rattle.av1.specs.Network.{Alg, Step, B, H, step, run, steps, permuted, dct}
 use Rattle.av1.specs.Values.{turn-x, turn-y, clipped, hits}
 use Rattle.av1.proofs.Related as Related
@@ -183,16 +184,10 @@ module _ (lo hi d : ℤ) where
     first-only n = given ∷ replicate (len n - 1) nought
 
     levels : (n : Side) → dct knowing (bits n) (first-only n) ≡ replicate (len n) level
-    levels of4 = refl
-    levels of8 = refl
-    levels of16 = refl
-    levels of32 = refl
+    levels = by-side (λ n. dct knowing (bits n) (first-only n) ≡ replicate (len n) level) refl refl refl refl
 
     all-still : (n : Side) → T (still (steps (bits n)) (permuted knowing (bits n) (first-only n)))
-    all-still of4 = tt
-    all-still of8 = tt
-    all-still of16 = tt
-    all-still of32 = tt
+    all-still = by-side (λ n. T (still (steps (bits n)) (permuted knowing (bits n) (first-only n)))) tt tt tt tt
 
     -- d first and nothing else: d turned by 45 degrees everywhere, and no clip acts
     module _ (n : Side) where
@@ -206,10 +201,7 @@ module _ (lo hi d : ℤ) where
       dc-quiet = no-hits (steps (bits n)) (permuted-related respects (bits n) (one refl (zeros (len n - 1)))) (all-still n)
 
     all-kept : (n : Side) → run knowing (steps (bits n)) (tab (len n) (λ i. unknown)) ≡ replicate (len n) kept
-    all-kept of4 = refl
-    all-kept of8 = refl
-    all-kept of16 = refl
-    all-kept of32 = refl
+    all-kept = by-side (λ n. run knowing (steps (bits n)) (tab (len n) (λ i. unknown)) ≡ replicate (len n) kept) refl refl refl refl
 
     at-kept : (k : ℕ) {xs : List ℤ} → Both Fact xs (replicate k kept) → (i : ℕ) → outside (at xs i) lo hi ≡ false
     at-kept zero none i = zero-inside

@@ -9,7 +9,8 @@ use lib.IntN.{ℤ, _+ℤ_, _-ℤ_}
 use lib.ListN.{getD, replicate}
 use Rattle.whole.specs.Numbers.{outside}
 use Rattle.whole.specs.Lists.{at, tab}
-use Rattle.levels.specs.Sides.{Side, of4, of8, of16, of32, len, bits}
+use Rattle.levels.specs.Sides.{Side, len, bits}
+use Rattle.av1.proofs.Sides.{by-side}
 use Rattle.av1.specs.Network.{Alg, Step, B, H, step, run, steps}
 use Rattle.av1.specs.Values.{clipped, hit, hits}
 use Rattle.dct.specs.Halves.{before, last}
@@ -22,10 +23,8 @@ module _ {A : Type 0} (𝓐 : Alg A) where
   padded n f = tab (len n) f ++ replicate (32 - len n) (𝓐 .none)
 
   pub order : (n : Side) (f : ℕ → A) → run 𝓐 (halves n) (padded n f) ≡ run 𝓐 (steps (bits n)) (tab (len n) f) ++ replicate (32 - len n) (𝓐 .none)
-  order of4 f = refl
-  order of8 f = refl
-  order of16 f = refl
-  order of32 f = refl
+  order n f = by-side (λ k. run 𝓐 (halves k) (padded k f) ≡ run 𝓐 (steps (bits k)) (tab (len k) f) ++ replicate (32 - len k) (𝓐 .none))
+      refl refl refl refl n
 
 -- ---- the butterflies of a run: the two places of each, and whether the test F holds of what it finds there
 
@@ -83,10 +82,8 @@ any-order (H a b ∷ ss) ms = ap (λ (t : Bool). its-hit a b ms || t) (any-order
 
 module _ {A : Type 0} (𝓐 : Alg A) (F : A → A → Bool) where
   same-met : (n : Side) (f : ℕ → A) → some (met 𝓐 F (halves n) (padded 𝓐 n f)) ≡ in-order (halves n) (met 𝓐 F (steps (bits n)) (tab (len n) f))
-  same-met of4 f = refl
-  same-met of8 f = refl
-  same-met of16 f = refl
-  same-met of32 f = refl
+  same-met n f = by-side (λ k. some (met 𝓐 F (halves k) (padded 𝓐 k f)) ≡ in-order (halves k) (met 𝓐 F (steps (bits k)) (tab (len k) f)))
+      refl refl refl refl n
 
 -- ---- the clips
 

@@ -1,6 +1,6 @@
 -- Laws of a pass, each for every kind and every length.
 use mathlib.Core.Path.{_≡_, refl, sym, ap, _∙_, subst⁻¹}
-use mathlib.Core.Bool.{true, false, cond}
+use mathlib.Core.Bool.{true, false}
 use mathlib.Core.List.{List, [], _∷_, map}
 use Prim.Native.Nat.{ℕ, zero, suc, _+_, _*_, _-_, _^_, _≤_}
 use native.Mathlib.Nat.{le-trans}
@@ -22,12 +22,12 @@ use Rattle.av1.proofs.Adst.{adst-zero, adst-small}
 use Rattle.av1.proofs.Known as Known
 use Rattle.av1.proofs.Unclipped.{unclipped}
 use Rattle.av1.proofs.Zeros.{at-tab}
-use Rattle.levels.specs.Manners.{four-only}
 use Rattle.itx_1d.specs.Passes.{Passed, identity, wht, pass, av1-pass}
 use Rattle.itx_1d.specs.Passes as Passes
 use Rattle.itx_1d.proofs.Wht.{t0, t1, t2, t3}
 use Rattle.levels.specs.declared.Kind.{Kind}
 use Rattle.levels.specs.declared.Kind.the-variants.{Dct, Identity, Wht, Adst, FlipAdst}
+use Rattle.av1.proofs.Sides.{by-side}
 
 -- ---- one number first and nothing else
 
@@ -37,10 +37,7 @@ only d zero = d
 only d (suc i) = pos 0
 
 first-only : (n : Side) (d : ℤ) → tab (len n) (only d) ≡ d ∷ replicate (len n - 1) (pos 0)
-first-only of4 d = refl
-first-only of8 d = refl
-first-only of16 d = refl
-first-only of32 d = refl
+first-only n d = by-side (λ k. tab (len k) (only d) ≡ d ∷ replicate (len k - 1) (pos 0)) refl refl refl refl n
 
 module _ (n : Side) (m : ℕ) (d : ℤ) (d-inside : outside d (low m) (high m) ≡ false) where
   -- 181d + 128 >> 8
@@ -67,10 +64,7 @@ only-zero n = tab-ext n (λ i. pos 0) (only (pos 0)) (λ i l. elim i [ zero ↦ 
 
 pub identity-zero : (n : Side) → identity n (pos 0) ≡ pos 0
 unfolding identity round2 _>>_
-identity-zero of4 = refl
-identity-zero of8 = refl
-identity-zero of16 = refl
-identity-zero of32 = refl
+identity-zero = by-side (λ n. identity n (pos 0) ≡ pos 0) refl refl refl refl
 
 -- what is zero at zero is taken element by element
 pub mapped-at : (f : ℤ → ℤ) → f (pos 0) ≡ pos 0 → (xs : List ℤ) (i : ℕ) → at (map f xs) i ≡ f (at xs i)
@@ -155,10 +149,7 @@ module _ (n : Side) (m : ℕ) (xs : List ℤ) where
 -- ---- how large, and how many
 
 pub len-power : (n : Side) → 2 ^ bits n ≡ len n
-len-power of4 = refl
-len-power of8 = refl
-len-power of16 = refl
-len-power of32 = refl
+len-power = by-side (λ n. 2 ^ bits n ≡ len n) refl refl refl refl
 
 identity-small : (n : Side) (v : ℤ) (k : ℕ) → natAbs v ≤ k → natAbs (identity n v) ≤ 5 * k + 2
 unfolding identity round2 _>>_
@@ -193,6 +184,3 @@ module _ (n : Side) (m : ℕ) (xs : List ℤ) where
   pass-small Wht k l h i = wht-small (at xs 0) (at xs 1) (at xs 2) (at xs 3) k (h 0, (h 1, (h 2, (h 3, tt)))) i
   pass-small Adst k l h i = adst-small false xs k h i
   pass-small FlipAdst k l h i = adst-small true xs k h i
-
-  abbrev pub left : Kind → ℕ
-  left kind = cond (four-only kind) 4 (len n)

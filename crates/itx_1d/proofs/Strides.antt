@@ -15,40 +15,20 @@ use borrow.Author.Tests.{leb-false, le-ltb, lt-ltb}
 use mir.Facts.{and-yes}
 use Rattle.whole.specs.Lists.{at, tab}
 use Rattle.whole.proofs.Counts.{tab-at, last-or-less}
-use Rattle.levels.specs.Sides.{Side, of4, of8, of16, of32, len, side}
+use Rattle.levels.specs.Sides.{len, side}
+use Rattle.levels.proofs.Sizes.{side-bounds}
+use Rattle.av1.proofs.Sides.{of-length}
 use Rattle.itx_1d.specs.Passes.{lower}
 use Rattle.itx_1d.specs.Calls.{put}
 use Rattle.itx_1d.specs.Inner.{source, sources-below, read, looked}
 
 -- ---- the lengths
 
--- what holds of the four lengths holds of n
-pub of-length : (P : ℕ → Type 0) → ((k : Side) → P (len k)) → (n : ℕ) → len (side n) ≡ n → P n
-of-length P p n e = subst P e (p (side n))
-
-below-32 : (k : Side) → T (leb (len k) 32)
-below-32 of4 = tt
-below-32 of8 = tt
-below-32 of16 = tt
-below-32 of32 = tt
-
 pub at-most-32 : (n : ℕ) → len (side n) ≡ n → n ≤ 32
-at-most-32 n e = leb→le n 32 (of-length (λ k. T (leb k 32)) below-32 n e)
-
-some-length : (k : Side) → T (ltb 0 (len k))
-some-length of4 = tt
-some-length of8 = tt
-some-length of16 = tt
-some-length of32 = tt
+at-most-32 n e = side-bounds n e .1
 
 pub not-0 : (n : ℕ) → len (side n) ≡ n → 0 < n
-not-0 n e = ltb→lt 0 n (of-length (λ k. T (ltb 0 k)) some-length n e)
-
-all-below : (k : Side) → T (sources-below (len k) (len k))
-all-below of4 = tt
-all-below of8 = tt
-all-below of16 = tt
-all-below of32 = tt
+not-0 n e = omega (arith, side-bounds n e .0)
 
 -- the last element is in the list, so all are
 pub in-reach : (c : List ℤ) (n s : ℕ) → leb (length c) ((n - 1) * s) ≡ false → (j : ℕ) → j < n → j * s < length c
@@ -73,7 +53,7 @@ source-of n (suc k) t i h =
     last-or-less i k (Source n) h (record { in-table = ltb→lt _ 32 (r .0); below = ltb→lt _ n (r .1); half = p .1 }) (source-of n k (q .1) i)
 
 pub source-at : (n : ℕ) → len (side n) ≡ n → (i : ℕ) → i < n → Source n i
-source-at n e i h = source-of n n (of-length (λ k. T (sources-below k k)) all-below n e) i h
+source-at n e i h = source-of n n (of-length (λ k. T (sources-below k k)) tt tt tt tt n e) i h
 
 -- ---- what is read: where it is the lower half, the odd places have zeros, and the others what they have of all
 

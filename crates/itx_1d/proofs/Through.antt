@@ -8,13 +8,11 @@ use native.Mathlib.Omega.{arith}
 use lib.Dec.{eqb}
 use lib.IntN.{ℤ, pos, natAbs}
 use lib.ListN.{replicate, set}
-use mir.Syntax.{w32}
-use mir.Val.{SFits, toZ, ofZ}
 use Rattle.whole.specs.Numbers.{low, high}
 use Rattle.whole.specs.Lists.{at, tab}
 use Rattle.whole.specs.Both.{Both, none, one}
 use Rattle.whole.proofs.Counts.{tab-at}
-use Rattle.levels.specs.Sides.{Side, of4, of8, of16, of32, len, bits, side}
+use Rattle.levels.specs.Sides.{Side, len, bits, side}
 use Rattle.av1.specs.Network.{permuted, run, steps}
 use Rattle.av1.specs.Values.{clipped, hits}
 use Rattle.av1.proofs.Zeros.{at-zeros, at-padded}
@@ -24,6 +22,7 @@ use Rattle.dct.specs.Fitting.{Ends}
 use Rattle.dct.specs.Stages.{Through, reach, small}
 use Rattle.dct.proofs.Order.{order, mark-order}
 use Rattle.levels.specs.declared.Kind.the-variants.{Dct}
+use Rattle.av1.proofs.Sides.{by-side}
 use Rattle.itx_1d.specs.Passes.{pass}
 use Rattle.itx_1d.specs.Calls.{taken, put}
 use Rattle.itx_1d.specs.Inner.{source, gathered, read, looked, Seen, Ranged, DctIs}
@@ -83,10 +82,7 @@ put-ext c s vs ws h (suc k) = λ i. set (put-ext c s vs ws h k i) (k * s) (h k i
 
 -- bit-reversed order is that of the table of section 7.13.2.3
 reversed : (lo hi : ℤ) (k : Side) (xs : List ℤ) → tab (len k) (λ i. at xs (source (len k) i)) ≡ permuted (clipped lo hi) (bits k) xs
-reversed lo hi of4 xs = refl
-reversed lo hi of8 xs = refl
-reversed lo hi of16 xs = refl
-reversed lo hi of32 xs = refl
+reversed lo hi k xs = by-side (λ j. tab (len j) (λ i. at xs (source (len j) i)) ≡ permuted (clipped lo hi) (bits j) xs) refl refl refl refl k
 
 module _ (k : Side) (m : ℕ) (xs : List ℤ) {u : List ℤ} {r : Bool} (t : Through (bits k - 1) (low m) (high m) (gathered xs (len k)) u r) where
   abbrev cell : ℕ → ℤ

@@ -14,8 +14,9 @@ use Rattle.av1.specs.Network.{Step, run}
 use Rattle.av1.specs.Values.{clipped, hits}
 use Rattle.whole.specs.Lists.{at, tab}
 use Rattle.whole.proofs.Held.{to2, from2}
-use Rattle.levels.specs.Sides.{Side, of4, of8, of16, of32, len}
+use Rattle.levels.specs.Sides.{Side, len}
 use Rattle.whole.specs.Both.{Both, none, one}
+use Rattle.av1.proofs.Sides.{by-side}
 use Rattle.av1.proofs.Related.{both-tab, run-related}
 use Rattle.dct.specs.Fitting.{Ends, sizes}
 use Rattle.av1.specs.Bounds.{Small, growth, fitting}
@@ -41,10 +42,7 @@ slot t l i = at t (i * 32 + l)
 
 pub parted : (k : Side) (t : List ℤ) (l : ℕ) → lane t l ≡ tab (len k) (slot t l) ++ tab (32 - len k) (λ i. slot t l (len k + i))
 unfolding lane
-parted of4 t l = refl
-parted of8 t l = refl
-parted of16 t l = refl
-parted of32 t l = refl
+parted k t l = by-side (λ j. lane t l ≡ tab (len j) (slot t l) ++ tab (32 - len j) (λ i. slot t l (len j + i))) refl refl refl refl k
 
 -- the bounds of lane l
 abbrev sized : Bool → Side → List ℤ → ℕ → List ℕ

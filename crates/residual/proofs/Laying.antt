@@ -11,21 +11,16 @@ use lib.ListN.{getD, length}
 use mir.Facts.{and-yes}
 use Rattle.whole.specs.Lists.{at}
 use Rattle.whole.proofs.Counts.{last-or-less}
-use Rattle.levels.specs.Sides.{Side, of4, of8, of16, of32, len, side}
+use Rattle.levels.specs.Sides.{len, side}
+use Rattle.av1.proofs.Sides.{of-length}
 use Rattle.itx_1d.specs.Inner.{revs, source}
-use Rattle.itx_1d.proofs.Strides.{of-length, source-at, at-most-32}
+use Rattle.itx_1d.proofs.Strides.{source-at, at-most-32}
 use Rattle.residual.specs.Inner.{Filled, Laid}
 
 -- bits in reverse order, twice
 abbrev back-again : ℕ → ℕ → Bool
 back-again n zero = true
 back-again n (suc k) = eqb (source n (source n k)) k && back-again n k
-
-all-back : (k : Side) → T (back-again (len k) (len k))
-all-back of4 = tt
-all-back of8 = tt
-all-back of16 = tt
-all-back of32 = tt
 
 back-of : (n k : ℕ) → T (back-again n k) → (i : ℕ) → i < k → source n (source n i) ≡ i
 back-of n zero t i h = let f : ⊥ = omega arith in absurd f
@@ -35,7 +30,7 @@ back-of n (suc k) t i h =
 
 module _ (n : ℕ) (e : len (side n) ≡ n) where
   pub back : (i : ℕ) → i < n → source n (source n i) ≡ i
-  back = back-of n n (of-length (λ k. T (back-again k k)) all-back n e)
+  back = back-of n n (of-length (λ k. T (back-again k k)) tt tt tt tt n e)
 
   apart : (i j : ℕ) → i < n → j < n → i ≢ j → source n i ≢ source n j
   apart i j h g d q = d (sym (back i h) ∙ ap (source n) q ∙ back j g)

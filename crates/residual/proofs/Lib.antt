@@ -9,4 +9,3 @@ pub mod Ends
 pub mod Laying
 pub mod Quick
 pub mod Scaling
-pub mod Engines

@@ -9,7 +9,8 @@ use lib.IntN.{ℤ, pos, natAbs}
 use lib.ListN.{length, replicate, List·getD-append}
 use Rattle.whole.specs.Lists.{at, tab}
 use Rattle.whole.proofs.Counts.{tab-at, tab-ext, tab-length}
-use Rattle.levels.specs.Sides.{Side, of4, of8, of16, of32, len, bits, side}
+use Rattle.levels.specs.Sides.{len, bits, side}
+use Rattle.av1.proofs.Sides.{of-length}
 use Rattle.av1.specs.Network.{Step, run}
 use Rattle.av1.specs.Values.{clipped, hits}
 use Rattle.dct.specs.Halves.{before, last}
@@ -22,19 +23,13 @@ use Rattle.av1.proofs.Tail.{below, run-length, run-front, hits-front}
 use Rattle.levels.specs.declared.Kind.the-variants.{Dct}
 use Rattle.itx_1d.specs.Passes.{pass}
 use Rattle.itx_1d.specs.Inner.{source, gathered, Ranged}
-use Rattle.itx_1d.proofs.Strides.{of-length, source-at, odd-high, at-most-32}
+use Rattle.itx_1d.proofs.Strides.{source-at, odd-high, at-most-32}
 use Rattle.itx_1d.proofs.Through.{value-is, mark-is, ends-of}
 use Rattle.residual.specs.Inner.{Laid, Quickly}
 use Rattle.residual.proofs.Laying.{back}
 
 abbrev pub halves : ℕ → List Step
 halves n = before (bits (side n) - 1) ++ last (bits (side n) - 1)
-
-own-places : (k : Side) → T (below (len k) (halves (len k)))
-own-places of4 = tt
-own-places of8 = tt
-own-places of16 = tt
-own-places of32 = tt
 
 pub never : {A : Type 0} → false ≡ true → A
 never e = absurd (subst T (sym e) tt)
@@ -73,7 +68,7 @@ module _ {n w : ℕ} {f : ℕ → ℕ → ℤ} {u : List ℤ} (e : len (side n) 
     front-length = tab-length n _
 
     ours : T (below n (halves n))
-    ours = of-length (λ k. T (below k (halves k))) own-places n e
+    ours = of-length (λ k. T (below k (halves k))) tt tt tt tt n e
 
     abbrev rest : List ℤ
     rest = tab (32 - n) (λ i. at u ((n + i) * 32 + l))

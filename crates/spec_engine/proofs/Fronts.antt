@@ -2,7 +2,7 @@
 use mathlib.Core.Path.{_≡_, refl, sym, ap, _∙_, subst}
 use mathlib.Core.List.{List, [], _∷_, _++_}
 use Prim.Native.Nat.{ℕ, zero, suc, _+_, _*_, _/_, _%_, _^_, _≤_, _<_}
-use native.Mathlib.Nat.{mod-lt}
+use native.Mathlib.Nat.{mod-lt, pow-le-pow-right}
 use native.Mathlib.Numerals.{unary-clauses}
 use native.Mathlib.Omega.{arith}
 use lib.Dec.{lit≤}
@@ -12,7 +12,8 @@ use lib.Seq.{drop-cons, getD-drop}
 use Rattle.whole.specs.Lists.{at, tab}
 use Rattle.whole.specs.Both.{Both, none, one}
 use Rattle.whole.proofs.Counts.{tab-at, tab-length}
-use Rattle.levels.specs.Sides.{Side, of4, of8, of16, of32, bits}
+use Rattle.levels.specs.Sides.{bits}
+use Rattle.av1.proofs.Sides.{by-side}
 use Rattle.av1.specs.Network.{brev}
 use Rattle.av1.specs.Bounds.{Small}
 use Rattle.spec_engine.specs.Arrays.{points, Points, begun, Begins}
@@ -90,26 +91,14 @@ four (w ∷ x ∷ y ∷ z ∷ t) a b c d h = record { same = go }
 -- ---- the lengths
 
 pub power : (k : ℕ) → k ≤ 5 → 2 ^ k ≤ 32
-power zero h = lit≤ tt
-power (suc zero) h = lit≤ tt
-power (suc (suc zero)) h = lit≤ tt
-power (suc (suc (suc zero))) h = lit≤ tt
-power (suc (suc (suc (suc zero)))) h = lit≤ tt
-power (suc (suc (suc (suc (suc zero))))) h = lit≤ tt
-power (suc (suc (suc (suc (suc (suc k)))))) h = let e : ⊥ = omega arith in absurd e
+power k h = pow-le-pow-right (lit≤ tt) h
 
 -- 2 ^ n as the code holds it
 pub shifted : (n : ℕ) → n ≤ 5 → 1 * 2 ^ n % 18446744073709551616 ≡ 2 ^ n
 shifted n h = omega (arith, power n h)
 
-bits-small : (k : Side) → bits k ≤ 5
-bits-small of4 = lit≤ tt
-bits-small of8 = lit≤ tt
-bits-small of16 = lit≤ tt
-bits-small of32 = lit≤ tt
-
 pub points-small : (n : ℕ) → Points n → n ≤ 5
-points-small n e = subst (λ (k : ℕ). k ≤ 5) e (bits-small (points n))
+points-small n e = subst (λ (k : ℕ). k ≤ 5) e (by-side (λ k. bits k ≤ 5) (lit≤ tt) (lit≤ tt) (lit≤ tt) (lit≤ tt) (points n))
 
 -- bits turned round are as many
 pub brev-below : (n x : ℕ) → brev n x < 2 ^ n

@@ -10,12 +10,13 @@ use lib.Seq.{getD-drop}
 use Rattle.whole.specs.Lists.{at, tab}
 use Rattle.whole.specs.Both.{Both}
 use Rattle.whole.proofs.Counts.{tab-ext, tab-length}
-use Rattle.levels.specs.Sides.{Side, of4, of8, of16, of32, bits, len, side}
+use Rattle.levels.specs.Sides.{Side, bits, len, side}
 use Rattle.av1.specs.Network.{steps, run, brev, dct}
 use Rattle.av1.specs.Values.{exact}
 use Rattle.av1.specs.Passes.{av1-identity, av1-wht}
 use Rattle.levels.specs.declared.Kind.{Kind}
 use Rattle.levels.specs.declared.Kind.the-variants.{Dct, Identity, Wht, Adst, FlipAdst}
+use Rattle.av1.proofs.Sides.{by-side}
 use Rattle.itx_1d.specs.Calls.{taken, put}
 use Rattle.itx_1d.specs.Inner.{most, Lined}
 use Rattle.itx_1d.specs.Passes.{wht, pass, av1-pass}
@@ -48,10 +49,7 @@ module _ (n : ℕ) (t : List ℤ) (is : Points n) (held : Held 524288 t) where
 
 -- the lines touch the first 2 ^ n numbers alone
 own-places : (k : Side) → T (below (2 ^ bits k) (steps (bits k)))
-own-places of4 = tt
-own-places of8 = tt
-own-places of16 = tt
-own-places of32 = tt
+own-places = by-side (λ k. T (below (2 ^ bits k) (steps (bits k)))) tt tt tt tt
 
 module _ (k : Side) (t : List ℤ) where
   abbrev from : ℕ → ℤ
@@ -129,10 +127,7 @@ put-same c s vs ws (suc n) b =
 -- ---- a pass as a whole
 
 pub points-bits : (k : Side) → points (bits k) ≡ k
-points-bits of4 = refl
-points-bits of8 = refl
-points-bits of16 = refl
-points-bits of32 = refl
+points-bits = by-side (λ k. points (bits k) ≡ k) refl refl refl refl
 
 whole-of : (kind : Kind) (k : Side) (c : List ℤ) (s : ℕ) (t u : List ℤ) → T (specified kind) → t ≡ loaded (len k) (λ i. at c (i * s))
     → Begins (2 ^ bits k) (av1-pass kind (points (bits k)) t) u

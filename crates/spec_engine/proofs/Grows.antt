@@ -2,14 +2,16 @@
 use mathlib.Core.Bool.{Bool, true, false}
 use mathlib.Core.List.{List, _∷_}
 use Prim.Native.Nat.{ℕ}
+use lib.Dec.{T}
 use lib.IntN.{ℤ}
 use lib.ListN.{replicate}
 use Rattle.whole.specs.Both.{Both}
-use Rattle.levels.specs.Sides.{Side, of4, of8, of16, of32, bits}
+use Rattle.levels.specs.Sides.{Side, bits}
+use Rattle.av1.proofs.Sides.{by-side}
 use Rattle.av1.specs.Network.{Step, steps}
-use Rattle.av1.specs.Bounds.{Small}
+use Rattle.av1.specs.Bounds.{Small, growth, fitting}
 use Rattle.av1.proofs.Bounds.{two-told, able-now}
-use Rattle.spec_engine.specs.Growth.{Workable}
+use Rattle.spec_engine.specs.Growth.{Workable, fits}
 use Rattle.spec_engine.specs.Lines.{step-of, Able}
 
 pub exchanged : {a b : ℕ} {t : List ℤ} → Workable t b a → Workable t a b
@@ -23,7 +25,8 @@ able-step false a b angle true w = exchanged (two-told (w .inside) b a 33554432 
 
 -- all of them, from a work array of the widest range
 pub begin : (n : Side) {t : List ℤ} → Both Small t (replicate 32 524288) → Able (steps (bits n)) t
-begin of4 h = record { β = replicate 32 524288; inside = h; ok = tt }
-begin of8 h = record { β = replicate 32 524288; inside = h; ok = tt }
-begin of16 h = record { β = replicate 32 524288; inside = h; ok = tt }
-begin of32 h = record { β = replicate 32 524288; inside = h; ok = tt }
+begin n h = record {
+  β = replicate 32 524288;
+  inside = h;
+  ok = by-side (λ k. T (fitting growth fits false (steps (bits k)) (replicate 32 524288))) tt tt tt tt n;
+}

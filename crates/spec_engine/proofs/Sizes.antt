@@ -8,12 +8,13 @@ use native.Mathlib.Omega.{arith}
 use lib.Dec.{T, lit≤}
 use lib.IntN.{ℤ, pos, natAbs}
 use Rattle.whole.specs.Lists.{at, tab}
-use Rattle.levels.specs.Sides.{Side, of4, of8, of16, of32, bits}
+use Rattle.levels.specs.Sides.{Side, bits}
 use Rattle.av1.specs.Network.{run, steps, brev}
 use Rattle.av1.proofs.Related.{both-tab, run-related}
 use Rattle.av1.proofs.Related as Related
 use Rattle.levels.specs.declared.Kind.{Kind}
 use Rattle.levels.specs.declared.Kind.the-variants.{Dct, Identity, Wht, Adst, FlipAdst}
+use Rattle.av1.proofs.Sides.{by-side}
 use Rattle.itx_1d.specs.Passes.{pass, av1-pass}
 use Rattle.itx_1d.proofs.PassLaws.{pass-av1, pass-small}
 use Rattle.spec_engine.specs.Growth.{all-below}
@@ -27,16 +28,10 @@ abbrev grown : Side → ℕ → List ℕ
 grown n k = run growth (steps (bits n)) (tab (2 ^ bits n) (λ i. k))
 
 row-bound : (n : Side) → T (all-below 20919545 (grown n 524288))
-row-bound of4 = tt
-row-bound of8 = tt
-row-bound of16 = tt
-row-bound of32 = tt
+row-bound = by-side (λ n. T (all-below 20919545 (grown n 524288))) tt tt tt tt
 
 column-bound : (n : Side) → T (all-below 5229919 (grown n 131072))
-column-bound of4 = tt
-column-bound of8 = tt
-column-bound of16 = tt
-column-bound of32 = tt
+column-bound = by-side (λ n. T (all-below 5229919 (grown n 131072))) tt tt tt tt
 
 module _ (n : Side) (xs : List ℤ) where
   dct-small : (k m : ℕ) → T (all-below m (grown n k)) → ((i : ℕ) → natAbs (at xs i) ≤ k) → (i : ℕ) → natAbs (at (av1-pass Dct n xs) i) ≤ m

@@ -62,12 +62,6 @@ sum = var 0 ⊛ var 1 ⊕ var 2 ⊛ var 3 ⊕ lit (pos 2048)
 abbrev whole : E
 whole = (sum ≫ 12) ⊕ var 0 ⊛ var 4 ⊕ var 2 ⊛ var 5
 
-returns : tie.Need-returns
-returns c =
-    reads (ρ c) β (small c) whole w32 tt
-    ∙ (λ i. shrZ (s c .args .x *ℤ u-is c i +ℤ s c .args .y *ℤ v-is c i +ℤ pos 2048) 4096 +ℤ s c .args .x *ℤ i-is c i +ℤ s c .args .y *ℤ j-is c i)
-    ∙ carried (s c .args .x) (s c .args .p) (s c .args .y) (s c .args .q)
-
 pub dot32-spec : {M : Type 1} → statement M
 dot32-spec =
     tie.close (tie.spec (λ c κs. search needs) (λ c κs. search needs)
@@ -77,4 +71,7 @@ dot32-spec =
     (λ c. need (ρ c) β (small c) (var 0 ⊛ var 1 ⊕ var 2 ⊛ var 3) w32 tt)
     (λ c. need (ρ c) β (small c) sum w32 tt) (λ c. need (ρ c) β (small c) (var 0 ⊛ var 4) w32 tt)
     (λ c. need (ρ c) β (small c) ((sum ≫ 12) ⊕ var 0 ⊛ var 4) w32 tt)
-    (λ c. need (ρ c) β (small c) (var 2 ⊛ var 5) w32 tt) (λ c. need (ρ c) β (small c) whole w32 tt) returns)
+    (λ c. need (ρ c) β (small c) (var 2 ⊛ var 5) w32 tt) (λ c. need (ρ c) β (small c) whole w32 tt) (λ c.
+    reads (ρ c) β (small c) whole w32 tt
+    ∙ (λ i. shrZ (s c .args .x *ℤ u-is c i +ℤ s c .args .y *ℤ v-is c i +ℤ pos 2048) 4096 +ℤ s c .args .x *ℤ i-is c i +ℤ s c .args .y *ℤ j-is c i)
+    ∙ carried (s c .args .x) (s c .args .p) (s c .args .y) (s c .args .q)))

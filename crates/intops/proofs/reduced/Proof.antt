@@ -26,10 +26,8 @@ module _ (c : tie.After-carry) where
 abbrev taken : E
 taken = var 1 ⊛ lit (pos 4096)
 
-returns : tie.Need-returns
-returns c = reads (ρ c) (4096 ∷ 1 ∷ []) (small c) (var 0 ⊝ taken) w32 tt ∙ ap (λ (z : ℤ). c .before .args .p -ℤ z *ℤ pos 4096) (is c)
-
 pub reduced-spec : {M : Type 1} → statement M
 reduced-spec =
     tie.close (tie.spec (λ c κs. search needs) (λ c. need (ρ c) (4096 ∷ 1 ∷ []) (small c) taken w32 tt)
-    (λ c. need (ρ c) (4096 ∷ 1 ∷ []) (small c) (var 0 ⊝ taken) w32 tt) returns)
+    (λ c. need (ρ c) (4096 ∷ 1 ∷ []) (small c) (var 0 ⊝ taken) w32 tt)
+    (λ c. reads (ρ c) (4096 ∷ 1 ∷ []) (small c) (var 0 ⊝ taken) w32 tt ∙ ap (λ (z : ℤ). c .before .args .p -ℤ z *ℤ pos 4096) (is c)))

@@ -38,10 +38,6 @@ module _ (s : tie.Start) where
   asked : (j : ℕ) → T (ltb j 4) → natAbs (toZ w32 (ofZ w32 (element j))) ≤ 524288
   asked j t = subst⁻¹ (λ (z : ℤ). natAbs z ≤ 524288) (held j t) (small j t)
 
-adst4-requires : tie.Need-adst4-requires
-adst4-requires c κs =
-    let s = start c in record { a-small = asked s 0 tt; b-small = asked s 1 tt; c-small = asked s 2 tt; d-small = asked s 3 tt }
-
 module _ (c : tie.After-adst4) where
   abbrev s : tie.Start
   s = start (c .before)
@@ -84,8 +80,9 @@ adst-spec =
     (λ c. in-slice (c .before) 1 tt) (λ c. omega (arith, in-slice (c .before .before) 2 tt))
     (λ c. omega (arith, in-slice (c .before .before) 2 tt)) (λ c. in-slice (c .before .before) 2 tt)
     (λ c. omega (arith, in-slice (c .before .before .before) 3 tt))
-    (λ c. omega (arith, in-slice (c .before .before .before) 3 tt))
-    (λ c. in-slice (c .before .before .before) 3 tt) adst4-requires (λ c. omega arith) (λ c. omega arith)
+    (λ c. omega (arith, in-slice (c .before .before .before) 3 tt)) (λ c. in-slice (c .before .before .before) 3 tt)
+    (λ c κs. let s = start c in record { a-small = asked s 0 tt; b-small = asked s 1 tt; c-small = asked s 2 tt; d-small = asked s 3 tt })
+    (λ c. omega arith) (λ c. omega arith)
     (λ c. in-slice (s (called c)) 0 tt) (λ c. omega (arith, in-slice (s (called c)) 1 tt))
     (λ c. omega (arith, in-slice (s (called c)) 1 tt)) (λ c. simp length-set (in-slice (s (called c)) 1 tt))
     (λ c. omega (arith, in-slice (s (called c)) 2 tt)) (λ c. omega (arith, in-slice (s (called c)) 2 tt))

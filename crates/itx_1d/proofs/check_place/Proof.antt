@@ -18,12 +18,6 @@ decided : (e : tie.After-enum-told) (p q : Bool) → let s = e .before .before i
     → place-check p q ≡ after (s .args .before) (place-check (eqb (s .args .stride) 0) (leb (s .args .length) ((s .args .n - 1) * s .args .stride)))
 decided e p q h k = (λ i. place-check (sym h i) (sym k i)) ∙ went-on _ (e .enum-told .given .1)
 
-returns-3 : tie.Need-returns-3
-returns-3 c =
-    let e = c .before .before in let s = e .before .before in
-    let short : s .args .length ≤ (s .args .n - 1) * s .args .stride = omega arith in
-    decided e false true (ne-eqb _ 0 (c .before .if1 .left)) (le-leb _ _ short)
-
 returns-4 : tie.Need-returns-4
 returns-4 c =
     let e = c .before .before .before in let s = e .before .before in
@@ -42,5 +36,8 @@ returns-5 c =
 pub check-place-spec : {M : Type 1} → statement M
 check-place-spec =
     tie.close (tie.spec (λ c. search needs) (λ c. handed-on (c .before .args .before) _ (c .match .keys2))
-    (λ c. decided (c .before) true _ (eq-eqb _ 0 (c .if1 .taken)) refl)
-    returns-3 (λ c. search needs) (λ c. search needs) (λ c. search needs) returns-4 returns-5)
+    (λ c. decided (c .before) true _ (eq-eqb _ 0 (c .if1 .taken)) refl) (λ c.
+    let e = c .before .before in let s = e .before .before in
+    let short : s .args .length ≤ (s .args .n - 1) * s .args .stride = omega arith in
+    decided e false true (ne-eqb _ 0 (c .before .if1 .left)) (le-leb _ _ short))
+    (λ c. search needs) (λ c. search needs) (λ c. search needs) returns-4 returns-5)

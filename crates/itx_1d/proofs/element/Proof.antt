@@ -33,18 +33,14 @@ module _ (s : tie.Start) where
   own : at xs (source (s .args .n) (s .args .i)) ≡ at (s .args .c .now) (source (s .args .n) (s .args .i) * s .args .stride)
   own = tab-at (s .args .n) (λ i. at (s .args .c .now) (i * s .args .stride)) (pos 0) (source (s .args .n) (s .args .i)) (here .below)
 
-returns : tie.Need-returns
-returns c = let s = c .before in sym (unread-is (s .args .n) (s .pre .0 .is-length) (s .args .i) (s .pre .1) (s .args .tx64) (xs s) (c .if1 .taken))
-
-returns-2 : tie.Need-returns-2
-returns-2 c =
-    let s = c .before .before in
-    toZ-ofZ w32 (at (s .args .c .now) (source (s .args .n) (s .args .i) * s .args .stride)) (record { sfits = c .result .given })
-    ∙ sym (read-is (s .args .n) (s .pre .0 .is-length) (s .args .i) (s .pre .1) (s .args .tx64) (xs s) (c .before .if1 .left) ∙ own s)
-
 pub element-spec : {M : Type 1} → statement M
 element-spec =
-    tie.close (tie.spec returns (λ c. let s = c .before in omega (arith, not-0 (s .args .n) (s .pre .0 .is-length)))
+    tie.close (tie.spec
+    (λ c. let s = c .before in sym (unread-is (s .args .n) (s .pre .0 .is-length) (s .args .i) (s .pre .1) (s .args .tx64) (xs s) (c .if1 .taken)))
+    (λ c. let s = c .before in omega (arith, not-0 (s .args .n) (s .pre .0 .is-length)))
     (λ c. omega (arith, here (c .before) .in-table)) (λ c. omega (arith, here (c .before) .in-table))
     (λ c. record { fits = byte (c .before) }) (λ c. omega (arith, there (c .before)))
-    (λ c. omega (arith, there (c .before))) (λ c. omega (arith, there (c .before))) returns-2)
+    (λ c. omega (arith, there (c .before))) (λ c. omega (arith, there (c .before))) (λ c.
+    let s = c .before .before in
+    toZ-ofZ w32 (at (s .args .c .now) (source (s .args .n) (s .args .i) * s .args .stride)) (record { sfits = c .result .given })
+    ∙ sym (read-is (s .args .n) (s .pre .0 .is-length) (s .args .i) (s .pre .1) (s .args .tx64) (xs s) (c .before .if1 .left) ∙ own s)))

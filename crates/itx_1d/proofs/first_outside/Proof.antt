@@ -45,19 +45,13 @@ returns c =
     (h .loop .i) (c .before .before .before .loop-test .taken) (sym (plain s _) ∙ sym (held (c .before)) ∙ c .if1 .taken)
     (λ k l. sym (plain s _) ∙ h .loop .inv .1 k l))
 
-loop-again : tie.Need-loop-again Inv-loop μ-loop
-loop-again c =
-    let h = c .before .before .before .before in
-    (omega arith, below-more _ _ (h .loop .inv .1) (sym (held (c .before)) ∙ c .if1 .left))
-
-returns-2 : tie.Need-returns-2 Inv-loop μ-loop
-returns-2 c =
-    let h = c .before in let s = h .before in
-    sym (none-first (s .args .n) (λ i. outside (at (s .args .c .now) (i * s .args .stride)) (s .args .min) (s .args .max))
-    (λ k l. sym (plain s _) ∙ h .loop .inv .1 k (omega arith)))
-
 pub first-outside-spec : {M : Type 1} → statement M
 first-outside-spec =
     tie.close (tie.spec Inv-loop μ-loop (λ c. (omega arith, λ k h. let f : ⊥ = omega arith in absurd f))
     (λ c. omega (arith, there c)) (λ c. omega (arith, there c)) (λ c. there c) (λ c κs. tt) returns (λ c. omega arith)
-    (λ c. omega arith) loop-again returns-2)
+    (λ c. omega arith) (λ c.
+    let h = c .before .before .before .before in
+    (omega arith, below-more _ _ (h .loop .inv .1) (sym (held (c .before)) ∙ c .if1 .left))) (λ c.
+    let h = c .before in let s = h .before in
+    sym (none-first (s .args .n) (λ i. outside (at (s .args .c .now) (i * s .args .stride)) (s .args .min) (s .args .max))
+    (λ k l. sym (plain s _) ∙ h .loop .inv .1 k (omega arith)))))

@@ -4,10 +4,10 @@ use mathlib.Core.Bool.{false, _||_}
 use mathlib.Core.List.{List, _∷_}
 use Prim.Native.Nat.{ℕ, _≤_, _+_, _-_}
 use native.Mathlib.Omega.{arith}
-use lib.ListN.{length, getD, drop}
+use lib.ListN.{length}
 use mir.Syntax.{w32}
 use mir.Val.{toZ, ofZ}
-use Rattle.av1.specs.Network.{Step, H, step}
+use Rattle.av1.specs.Network.{step}
 use Rattle.av1.specs.Values.{exact, hit}
 use Rattle.dct.specs.Stages.{joins}
 use Rattle.dct.proofs.Order.{or-no, or-more}
@@ -42,11 +42,6 @@ module _ (c : tie.After-shared-slice-known3 Inv-loop μ-loop) where
   parted : joins-from ps (head .loop .i) ≡ join-at ps (head .loop .i) ∷ joins-from ps (head .loop .i + 2)
   parted = joins-at ps (head .loop .i) (c .before .before .loop-test .taken)
 
-mix-requires : tie.Need-mix-requires Inv-loop μ-loop
-mix-requires c κs =
-    let e = c .before in let q = s e in let h = head e .loop in let able = able-here (h .inv .0) (parted e) in
-    paired (h .t) (q .args .l) (h .inv .0 .long ∙ q .pre .long) (q .pre .l-in) _ _ 1073741823 (two-told (able .inside) _ _ 1073741823 (able-now able))
-
 loop-again : tie.Need-loop-again Inv-loop μ-loop
 loop-again c =
     let e = c .before .before in let q = s e in let h = head e .loop in let L = lane (h .t) (q .args .l) in
@@ -74,4 +69,8 @@ pub mixes-spec : {M : Type 1} → statement M
 mixes-spec =
     tie.close (tie.spec Inv-loop μ-loop (λ c. (begin (c .before .pre .able), refl, omega arith))
     (λ c. omega arith) (λ c. omega arith) (λ c. omega arith) (λ c. omega arith) (λ c. omega arith) (λ c. omega arith)
-    mix-requires (λ c. omega arith) (λ c. omega arith) loop-again returns)
+    (λ c κs.
+    let e = c .before in let q = s e in let h = head e .loop in let able = able-here (h .inv .0) (parted e) in
+    paired (h .t) (q .args .l) (h .inv .0 .long ∙ q .pre .long) (q .pre .l-in) _ _ 1073741823
+    (two-told (able .inside) _ _ 1073741823 (able-now able)))
+    (λ c. omega arith) (λ c. omega arith) loop-again returns)

@@ -53,23 +53,17 @@ module _ (c : tie.After-sin Inv-loop μ-loop) where
       turns-at (s .args .pairs .now) (head .loop .i) (s .args .flip) (s .args .angles .now)
       (c .before .before .before .before .loop-test .taken) (s .pre .even)
 
-turn-requires : tie.Need-turn-requires Inv-loop μ-loop
-turn-requires c κs =
-    let e = c .before in let q = s e in let h = head e .loop in
-    to2 (Turnable (q .args .tx64) (h .t) (q .args .l) (a e) (b e)) (cos-fits e) (sin-fits e)
-    (able-turn (h .t) (q .args .l) (h .inv .0 .long ∙ q .pre .long) (q .pre .l-in) (able-here (h .inv .0) (parted e)))
-
-loop-again : tie.Need-loop-again Inv-loop μ-loop
-loop-again c =
-    let e = c .before .before in let q = s e in let h = head e .loop in
-    let Done : ℤ → ℤ → Type 0 = λ x y. OnLane (q .args .l) (step exact (B (a e) (b e) x y (q .args .flip))) (h .t) (c .turn .last .0) in
-    (further (h .inv .0) (parted e) (from2 Done (cos-fits e) (sin-fits e) (c .turn .ensures)), omega arith)
-
 pub turns-spec : {M : Type 1} → statement M
 turns-spec =
     tie.close (tie.spec Inv-loop μ-loop (λ c. (begin (c .before .pre .able), omega arith))
     (λ c. omega arith) (λ c. omega arith) (λ c. omega arith) (λ c. omega arith) (λ c. omega arith) (λ c. omega arith)
-    (λ c. omega arith) (λ c. omega arith) (λ c. omega arith) (λ c. omega arith) (λ c. omega arith)
-    turn-requires (λ c. omega arith) (λ c. omega arith) loop-again (λ c.
+    (λ c. omega arith) (λ c. omega arith) (λ c. omega arith) (λ c. omega arith) (λ c. omega arith) (λ c κs.
+    let e = c .before in let q = s e in let h = head e .loop in
+    to2 (Turnable (q .args .tx64) (h .t) (q .args .l) (a e) (b e)) (cos-fits e) (sin-fits e)
+    (able-turn (h .t) (q .args .l) (h .inv .0 .long ∙ q .pre .long) (q .pre .l-in) (able-here (h .inv .0) (parted e))))
+    (λ c. omega arith) (λ c. omega arith) (λ c.
+    let e = c .before .before in let q = s e in let h = head e .loop in
+    let Done : ℤ → ℤ → Type 0 = λ x y. OnLane (q .args .l) (step exact (B (a e) (b e) x y (q .args .flip))) (h .t) (c .turn .last .0) in
+    (further (h .inv .0) (parted e) (from2 Done (cos-fits e) (sin-fits e) (c .turn .ensures)), omega arith)) (λ c.
     let h = c .before in let q = h .before .before in
     ended (h .loop .inv .0) (turns-end (q .args .pairs .now) (h .loop .i) (c .loop-test .left) (q .args .flip) _)))

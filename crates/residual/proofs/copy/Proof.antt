@@ -16,16 +16,10 @@ Inv-loop u₀ i t j n x₀ u x = Filled u₀ i 1 (λ k. at t (j + k)) x u × (x 
 abbrev μ-loop : tie.MeasureT-loop
 μ-loop u₀ i t j n x₀ u x = n - x
 
-loop-again : tie.Need-loop-again Inv-loop μ-loop
-loop-again c =
-    let h = c .before .before in let s = h .before in (
-      filled-more (h .loop .inv .0) (s .args .i + h .loop .x) refl (omega arith)
-          (toZ-ofZ w32 _ (record { sfits = c .v .given })),
-      omega arith,
-    )
-
 pub copy-spec : {M : Type 1} → statement M
 copy-spec =
     tie.close (tie.spec Inv-loop μ-loop (λ c. (filled-none, omega arith)) (λ c. omega arith) (λ c. omega arith) (λ c. omega arith)
-    (λ c. omega arith) (λ c. omega arith) (λ c. omega arith) (λ c. omega arith) (λ c. omega arith) loop-again (λ c. c .before .loop .inv .0 .long)
+    (λ c. omega arith) (λ c. omega arith) (λ c. omega arith) (λ c. omega arith) (λ c. omega arith)
+    (λ c. (filled-more (c .before .before .loop .inv .0) _ refl (omega arith) (toZ-ofZ w32 _ (record { sfits = c .v .given })), omega arith))
+    (λ c. c .before .loop .inv .0 .long)
     (λ c. let all : c .before .loop .x ≡ c .before .before .args .n = omega arith in rw all at (c .before .loop .inv .0)))

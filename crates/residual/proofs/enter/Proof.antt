@@ -32,14 +32,11 @@ returns-2 c =
     reads (s .args .v ∷ []) (524288 ∷ []) (s .pre .1, tt) (var 0 ⊛ lit (pos 181) ⊕ lit (pos 128) ≫ 8) w32 tt
     ∙ scaled-by s true (c .if1 .taken) ∙ of-other (s .args .rows) _ _ (m .match .keys2)
 
-returns-3 : tie.Need-returns-3
-returns-3 c =
-    let m = c .before in let s = m .before in
-    toZ-ofZ w32 (s .args .v) (s .fits .v) ∙ scaled-by s false (c .if1 .left) ∙ of-other (s .args .rows) _ _ (m .match .keys2)
-
 pub enter-spec : {M : Type 1} → statement M
 enter-spec =
     tie.close (tie.spec (λ c. search needs) returns (λ c. search needs) (λ c. search needs)
     (λ c. let s = c .before .before in need (s .args .v ∷ []) (524288 ∷ []) (s .pre .1, tt) (var 0 ⊛ lit (pos 181)) w32 tt)
     (λ c. let s = c .before .before in need (s .args .v ∷ []) (524288 ∷ []) (s .pre .1, tt) (var 0 ⊛ lit (pos 181) ⊕ lit (pos 128)) w32 tt)
-    returns-2 returns-3)
+    returns-2 (λ c.
+    let m = c .before in let s = m .before in
+    toZ-ofZ w32 (s .args .v) (s .fits .v) ∙ scaled-by s false (c .if1 .left) ∙ of-other (s .args .rows) _ _ (m .match .keys2)))

@@ -1,9 +1,8 @@
 -- `residual::rounded` meets its contract.
-use mathlib.Core.Path.{_≡_, sym, ap, _∙_}
+use mathlib.Core.Path.{_≡_}
 use mathlib.Core.List.{[], _∷_}
-use Prim.Native.Nat.{ℕ}
 use native.Mathlib.Omega.{arith}
-use lib.IntN.{ℤ, pos}
+use lib.IntN.{pos}
 use mir.Syntax.{w32}
 use mir.ValLaws.{toZ-ofZ}
 use Rattle.whole.specs.Numbers.{_>>_, round2}
@@ -11,24 +10,20 @@ use Rattle.whole.proofs.Machine.{var, lit, _⊕_, _≫_, need, reads}
 use Rattle.residual.proofs.rounded.Statement.{statement}
 use Rattle.residual.proofs.rounded.Tie as tie
 
--- by a shift that is k
-by : (s : tie.Start) {z : ℤ} (k : ℕ) → s .args .shift ≡ k → z ≡ round2 (s .args .v) k → z ≡ round2 (s .args .v) (s .args .shift)
-by s k e h = h ∙ ap (round2 (s .args .v)) (sym e)
-
 returns : tie.Need-returns
 unfolding Rattle.whole.specs.Numbers.round2
-returns c = let s = c .before in by s 0 (c .match .keys1) (toZ-ofZ w32 (s .args .v) (s .fits .v))
+returns c = let s = c .before in rw (c .match .keys1) (toZ-ofZ w32 (s .args .v) (s .fits .v))
 
 returns-2 : tie.Need-returns-2
 unfolding Rattle.whole.specs.Numbers.round2 Rattle.whole.specs.Numbers._>>_
-returns-2 c = let s = c .before in by s 1 (c .match .keys2)
-    (reads (s .args .v ∷ []) (1073741823 ∷ []) (s .pre .0, tt) (var 0 ⊕ lit (pos 1) ≫ 1) w32 tt)
+returns-2 c = let s = c .before in
+    rw (c .match .keys2) (reads (s .args .v ∷ []) (1073741823 ∷ []) (s .pre .0, tt) (var 0 ⊕ lit (pos 1) ≫ 1) w32 tt)
 
 returns-3 : tie.Need-returns-3
 unfolding Rattle.whole.specs.Numbers.round2 Rattle.whole.specs.Numbers._>>_
 returns-3 c =
     let s = c .before in let two : s .args .shift ≡ 2 = omega arith in
-    by s 2 two (reads (s .args .v ∷ []) (1073741823 ∷ []) (s .pre .0, tt) (var 0 ⊕ lit (pos 2) ≫ 2) w32 tt)
+    rw two (reads (s .args .v ∷ []) (1073741823 ∷ []) (s .pre .0, tt) (var 0 ⊕ lit (pos 2) ≫ 2) w32 tt)
 
 pub rounded-spec : {M : Type 1} → statement M
 rounded-spec =

@@ -26,22 +26,17 @@ module _ (l : tie.After-load-row Inv-loop μ-loop) where
   abbrev start : tie.Start Inv-loop μ-loop
   start = turn .before .before
 
-wht4-requires : tie.Need-wht4-requires Inv-loop μ-loop
-wht4-requires c κs =
-    let l = c .before .before in row-passable {w = 4} refl (omega arith) (l .load-row .ensures)
-    (λ x g. le-trans (loaded-small (start l .pre .coefs) (turn l .before .loop .y) x (omega arith) g) (lit≤ tt))
-
-loop-again : tie.Need-loop-again Inv-loop μ-loop
-loop-again c =
-    let d = c .before in let l = d .before .before .before in
-    let row = row-filled {w = 4} refl (omega arith) (l .load-row .ensures) (d .wht4 .ensures) in
-    (rows-more (turn l .before .loop .inv .0) row, omega arith)
-
 pub rows-of-wht-spec : {M : Type 1} → statement M
 rows-of-wht-spec =
     tie.close (tie.spec Inv-loop μ-loop (λ c. (rows-none (c .pre .empty) (c .pre .long), omega arith)) (λ c κs.
     let i = c .before in let s = i .before .before in
     record { sized = s .pre .sized; coefs = s .pre .coefs; y-in = omega arith; room = omega arith }) (λ c. omega arith)
-    (λ c. omega arith) (λ c. omega arith) (λ c. omega arith) (λ c. le-refl _) wht4-requires (λ c. omega arith)
-    (λ c. omega arith) loop-again (λ c. c .before .loop .inv .0 .long ∙ sym (c .before .before .pre .long))
+    (λ c. omega arith) (λ c. omega arith) (λ c. omega arith) (λ c. le-refl _) (λ c κs.
+    let l = c .before .before in row-passable {w = 4} refl (omega arith) (l .load-row .ensures)
+    (λ x g. le-trans (loaded-small (start l .pre .coefs) (turn l .before .loop .y) x (omega arith) g) (lit≤ tt)))
+    (λ c. omega arith) (λ c. omega arith) (λ c.
+    let d = c .before in let l = d .before .before .before in
+    let row = row-filled {w = 4} refl (omega arith) (l .load-row .ensures) (d .wht4 .ensures) in
+    (rows-more (turn l .before .loop .inv .0) row, omega arith))
+    (λ c. c .before .loop .inv .0 .long ∙ sym (c .before .before .pre .long))
     (λ c. let all : c .before .loop .y ≡ c .before .before .args .r = omega arith in rw all at (c .before .loop .inv .0)))

@@ -26,11 +26,6 @@ scaled = product ⊕ lit (pos 128) ≫ 8
 abbrev left : E
 left = product ⊕ lit (pos 2176) ≫ 12
 
-enter-requires : tie.Need-enter-requires
-enter-requires c κs =
-    let p = c .args .plan in
-    ((w-small p (c .pre .0), h-small p (c .pre .0)), subst⁻¹ (λ (z : ℤ). natAbs z ≤ 524288) (toZ-ofZ w32 (c .args .v) (c .fits .v)) (c .pre .1))
-
 -- after step 2
 module _ (c : tie.After-enter) where
   abbrev s : tie.Start
@@ -84,7 +79,10 @@ returns c = (
 
 pub shortcut-spec : {M : Type 1} → statement M
 shortcut-spec =
-    tie.close (tie.spec enter-requires (λ c. need (c .enter .result ∷ []) (524288 ∷ []) (entered-small c, tt) product w32 tt)
+    tie.close (tie.spec (λ c κs.
+    let p = c .args .plan in
+    ((w-small p (c .pre .0), h-small p (c .pre .0)), subst⁻¹ (λ (z : ℤ). natAbs z ≤ 524288) (toZ-ofZ w32 (c .args .v) (c .fits .v)) (c .pre .1)))
+    (λ c. need (c .enter .result ∷ []) (524288 ∷ []) (entered-small c, tt) product w32 tt)
     (λ c. need (c .enter .result ∷ []) (524288 ∷ []) (entered-small c, tt) (product ⊕ lit (pos 128)) w32 tt)
     rounded-requires (λ c. need (c .rounded .result ∷ []) (524288 ∷ []) (small c, tt) product w32 tt)
     (λ c. need (c .rounded .result ∷ []) (524288 ∷ []) (small c, tt) (product ⊕ lit (pos 2176)) w32 tt) returns)

@@ -16,14 +16,12 @@ Inv-loop t₀ from u y w x₀ t x = Filled t₀ from 1 (λ k. at u (k * 32 + y))
 abbrev μ-loop : tie.MeasureT-loop
 μ-loop t₀ from u y w x₀ t x = w - x
 
-loop-again : tie.Need-loop-again Inv-loop μ-loop
-loop-again c =
-    let h = c .before .before in
-    (filled-more (h .loop .inv .0) _ refl (omega arith) (toZ-ofZ w32 _ (record { sfits = c .v .given })), omega arith)
-
 pub store-row-spec : {M : Type 1} → statement M
 store-row-spec =
     tie.close (tie.spec Inv-loop μ-loop (λ c. (filled-none, omega arith)) (λ c. omega arith) (λ c. omega arith) (λ c. omega arith)
-    (λ c. omega arith) (λ c. omega arith) (λ c. omega arith) (λ c. omega arith) (λ c. omega arith) (λ c. omega arith) loop-again
+    (λ c. omega arith) (λ c. omega arith) (λ c. omega arith) (λ c. omega arith) (λ c. omega arith) (λ c. omega arith)
+    (λ c.
+    let h = c .before .before in
+    (filled-more (h .loop .inv .0) _ refl (omega arith) (toZ-ofZ w32 _ (record { sfits = c .v .given })), omega arith))
     (λ c. c .before .loop .inv .0 .long)
     (λ c. let all : c .before .loop .x ≡ c .before .before .args .w = omega arith in rw all at (c .before .loop .inv .0)))

@@ -38,16 +38,12 @@ loop-again c =
       omega arith,
     )
 
-returns : tie.Need-returns Inv-loop μ-loop
-returns c =
-    let h = c .before .loop in let e : c .before .before .args .n - h .counter ≡ 0 = omega arith in let r = h .reversed in
-    let z : r ≡ r * 1 + 0 = omega arith in z ∙ sym (λ i. r * 2 ^ (e i) + brev (e i) (h .left)) ∙ h .inv .0
-
 pub brev-spec : {M : Type 1} → statement M
 brev-spec =
     tie.close (tie.spec Inv-loop μ-loop (λ c.
     let n = c .args .n in let z : n - 0 ≡ n = omega arith in
     let first : 0 * 2 ^ (n - 0) + brev (n - 0) (c .args .x) ≡ brev (n - 0) (c .args .x) = omega arith in
     (first ∙ ap (λ (k : ℕ). brev k (c .args .x)) z, lit≤ tt, omega arith))
-    (λ c. omega (arith, below c)) (λ c. omega (arith, below c)) (λ c. omega arith) (λ c. omega arith) loop-again
-    returns)
+    (λ c. omega (arith, below c)) (λ c. omega (arith, below c)) (λ c. omega arith) (λ c. omega arith) loop-again (λ c.
+    let h = c .before .loop in let e : c .before .before .args .n - h .counter ≡ 0 = omega arith in let r = h .reversed in
+    let z : r ≡ r * 1 + 0 = omega arith in z ∙ sym (λ i. r * 2 ^ (e i) + brev (e i) (h .left)) ∙ h .inv .0))

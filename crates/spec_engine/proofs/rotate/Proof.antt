@@ -82,16 +82,6 @@ second c =
 abbrev turned : tie.Start → Bool → List ℤ
 turned s flip = step exact (turn (s .args .a) (s .args .b) (s .args .angle) flip) (s .args .t .now)
 
-returns : tie.Need-returns
-returns c =
-    let z = s (known (c .before)) in
-    (λ i. set (set (z .args .t .now) (z .args .a) (second (c .before) i)) (z .args .b) (first (c .before) i)) ∙ ap (turned z) (sym (c .if1 .taken))
-
-returns-2 : tie.Need-returns-2
-returns-2 c =
-    let z = s (known (c .before)) in
-    (λ i. set (set (z .args .t .now) (z .args .a) (first (c .before) i)) (z .args .b) (second (c .before) i)) ∙ ap (turned z) (sym (c .if1 .left))
-
 pub rotate-spec : {M : Type 1} → statement M
 rotate-spec =
     tie.close (tie.spec
@@ -106,4 +96,9 @@ rotate-spec =
     (λ c. fits (c .before .before .before) sine tt)
     (λ c κs. let k = c .before .before .before in held-small (ρ k) β (h k) sine w64 tt) (λ c. search needs)
     (λ c. search needs) (λ c. search needs) (λ c. search needs) (λ c. search needs) (λ c. search needs)
-    (λ c. search needs) (λ c. search needs) returns returns-2)
+    (λ c. search needs) (λ c. search needs) (λ c.
+    let z = s (known (c .before)) in
+    (λ i. set (set (z .args .t .now) (z .args .a) (second (c .before) i)) (z .args .b) (first (c .before) i)) ∙ ap (turned z) (sym (c .if1 .taken)))
+    (λ c.
+    let z = s (known (c .before)) in
+    (λ i. set (set (z .args .t .now) (z .args .a) (first (c .before) i)) (z .args .b) (second (c .before) i)) ∙ ap (turned z) (sym (c .if1 .left))))
