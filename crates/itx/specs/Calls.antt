@@ -16,7 +16,6 @@ use Rattle.pixels.specs.Adds.{add-rows}
 use Rattle.strided.specs.Planes.{Plane, lies, begins}
 use Rattle.residual.specs.Blocks.{Way, residual, marked, way, shortcut}
 
-
 pub record Outcome : Type 0 where
   pub answer : Answer
   pub pixels : List ℕ
