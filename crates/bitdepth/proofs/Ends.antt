@@ -21,14 +21,15 @@ pub record Reach (m : ℕ) : Type 0 where
   pub small : m ≤ 524288
 
 pub row-reach : (d : Depth) → Reach (row-range d)
-row-reach Eight = record { some = lit≤ tt; small = lit≤ tt }
-row-reach Ten = record { some = lit≤ tt; small = lit≤ tt }
-row-reach Twelve = record { some = lit≤ tt; small = lit≤ tt }
+row-reach d = record {
+  some = elim d [ Eight ↦ lit≤ tt | Ten ↦ lit≤ tt | Twelve ↦ lit≤ tt ];
+  small = elim d [ Eight ↦ lit≤ tt | Ten ↦ lit≤ tt | Twelve ↦ lit≤ tt ];
+}
 
 pub column-reach : (d : Depth) → Reach (column-range d)
-column-reach Eight = record { some = lit≤ tt; small = lit≤ tt }
-column-reach Ten = record { some = lit≤ tt; small = lit≤ tt }
-column-reach Twelve = record { some = lit≤ tt; small = lit≤ tt }
+column-reach Eight = row-reach Eight
+column-reach Ten = row-reach Eight
+column-reach Twelve = row-reach Ten
 
 module _ {m : ℕ} (g : Reach m) where
   pub size : natAbs (low m) ≡ m

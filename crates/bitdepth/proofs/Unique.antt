@@ -9,13 +9,5 @@ use Rattle.bitdepth.specs.declared.DepthCheck.the-variants.{Taken, Refus
 use Rattle.bitdepth.specs.Depths.{depth}
 use Rattle.bitdepth.specs.Depths.{check-of}
 
-abbrev back : Check Depth → DepthCheck
-back (accept d) = Taken d
-back (refuse n i) = Refused
-
-back-is : (r : DepthCheck) → back (check-of r) ≡ r
-back-is (Taken d) = refl
-back-is Refused = refl
-
 pub one-depth : (n : ℕ) (r r′ : DepthCheck) → check-of r ≡ depth n → check-of r′ ≡ depth n → r ≡ r′
-one-depth n r r′ = one-answer check-of back back-is
+one-depth n r r′ = one-answer check-of (elim [ accept d ↦ Taken d | refuse n i ↦ Refused ]) (elim [ Taken d ↦ refl | Refused ↦ refl ])

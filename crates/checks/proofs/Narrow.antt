@@ -1,6 +1,6 @@
 -- What a narrow block holds makes lines of the table find nothing, and these can be left out.
-use mathlib.Core.Path.{_≡_, refl, sym}
-use mathlib.Core.Bool.{Bool, true, false, _&&_}
+use mathlib.Core.Path.{_≡_, refl, sym, ap, _∙_}
+use mathlib.Core.Bool.{Bool, _&&_, and-false}
 use mathlib.Core.List.{List, [], _∷_, _++_}
 use mathlib.Core.Option.{none}
 use Prim.Native.Nat.{ℕ, _*_, _%_, _≤_}
@@ -10,7 +10,7 @@ use borrow.Author.Tests.{le-ltb}
 use lib.Dec.{ltb, lit≤}
 use lib.IntN.{ℤ}
 use lib.ListN.{getD}
-use Rattle.whole.specs.Numbers.{outside, low, high}
+use Rattle.whole.specs.Numbers.{low, high}
 use Rattle.whole.specs.Lists.{at}
 use Rattle.whole.specs.Checks.{Check, accept, refuse, then, unless-at, Line, judged}
 use Rattle.whole.proofs.Counts.{none-first}
@@ -35,28 +35,14 @@ pub unasked : {A : Type 0} (k : Check A) (ls : List (Line A)) (l : Line A) (ms :
 unasked (accept a) ls l ms e = left-out ls l ms a (e a)
 unasked (refuse n i) ls l ms e = refl
 
-neither : (t u : Bool) → u ≡ false → t && u ≡ false
-neither true u e = e
-neither false u e = refl
-
 -- no number of 16 bits is outside a row range
 pub range-none : (c : List ℤ) (p : Plan) (d : Depth) → NoneOutside (p .w * p .h) c → none ≡ out-of-range (p, d) c
-range-none c p d held = sym (none-first (p .w * p .h) _ (λ i l. wider d (at c i) (held i l)))
-  where
-    wider : (d : Depth) (v : ℤ) → outside v (low 32768) (high 32768) ≡ false → outside v (low (row-range d)) (high (row-range d)) ≡ false
-    wider Eight v e = e
-    wider Ten v e = let k = inside (low 32768) (high 32768) v e in
-        not-outside (low 131072) (high 131072) v (record { above = omega (arith, k .above); below = omega (arith, k .below) })
-    wider Twelve v e = let k = inside (low 32768) (high 32768) v e in
-        not-outside (low 524288) (high 524288) v (record { above = omega (arith, k .above); below = omega (arith, k .below) })
+range-none c p d held = let wide : 32768 ≤ row-range d = elim d [ Eight ↦ lit≤ tt | Ten ↦ lit≤ tt | Twelve ↦ lit≤ tt ] in
+    sym (none-first (p .w * p .h) _ (λ i l. let k = inside (low 32768) (high 32768) (at c i) (held i l) in
+    not-outside (low (row-range d)) (high (row-range d)) (at c i) (record { above = omega arith; below = omega arith })))
 
 -- no byte is above a maximum
 pub above-none : (ps : List ℕ) (s : Spot) (w : ℕ) (d : Depth) → ((i : ℕ) → getD ps i 0 ≤ 255) → none ≡ first-above (maximum d) ps s w
-above-none ps s w d bytes =
-    sym (none-first (s .rows * w) (above (maximum d) ps s w)
-    (λ j l. neither (ltb (j % w) (s .columns)) _ (le-ltb (maximum d) _ (le-trans (bytes _) (most d)))))
-  where
-    most : (d : Depth) → 255 ≤ maximum d
-    most Eight = lit≤ tt
-    most Ten = lit≤ tt
-    most Twelve = lit≤ tt
+above-none ps s w d bytes = let most : 255 ≤ maximum d = elim d [ Eight ↦ lit≤ tt | Ten ↦ lit≤ tt | Twelve ↦ lit≤ tt ] in
+    sym (none-first (s .rows * w) (above (maximum d) ps s w) (λ j l.
+    ap (λ (t : Bool). ltb (j % w) (s .columns) && t) (le-ltb (maximum d) _ (le-trans (bytes _) most)) ∙ and-false (ltb (j % w) (s .columns))))

@@ -1,30 +1,28 @@
 -- A call is accepted just when no number of the table holds.
 use mathlib.Core.Path.{_≡_, refl, ap, _∙_}
-use mathlib.Core.Bool.{Bool, true, false, cond}
+use mathlib.Core.Bool.{true}
 use Prim.Native.Nat.{ℕ}
 use Rattle.whole.specs.Checks.{Check, accept, refuse, then, when, judged}
 use Rattle.whole.proofs.Checks.{open-then, same-accept, when-none, cleared, taken}
 use Rattle.bitdepth.specs.declared.Depth.{Depth}
 use Rattle.bitdepth.specs.Depths.{depth}
 use Rattle.levels.specs.declared.Plan.{Plan}
-use Rattle.levels.specs.Plans.{among, shift-0, shift-1, shift-2, with-kinds, with-shift, plan}
+use Rattle.levels.specs.Plans.{with-kinds, with-shift, plan}
 use Rattle.levels.proofs.Types.{by-types}
 use Rattle.checks.specs.Table.{Block, Call, with-depth, table, verdict}
 use Rattle.checks.specs.Accepted.{Accepted}
+use Rattle.levels.proofs.Sizes.{by-shift}
 
 -- a plan is refused by 1 or by 2
 pub by-plan : (F : Check Plan → Type 0) (w h type : ℕ) → F (refuse 1 0) → F (refuse 2 0) → ((p : Plan) → F (accept p)) → F (plan w h type)
-by-plan F w h type no-size no-type planned = shifted (among w h shift-0) (among w h shift-1) (among w h shift-2)
-  where
-    kinds : (s : ℕ) → F (with-shift w h type s)
-    kinds s = by-types (λ t. true) (λ k. F (then k (with-kinds w h s))) w h type no-type (λ t a b. planned _) tt
+by-plan F w h type no-size no-type planned = by-shift w h (λ c. F (then c (with-shift w h type)))
+    (λ s l b. by-types (λ t. true) (λ k. F (then k (with-kinds w h s))) w h type no-type (λ t a b. planned _) tt) no-size
 
-    shifted : (a b c : Bool) → F (then (cond a (accept 0) (cond b (accept 1) (cond c (accept 2) (refuse 1 0)))) (with-shift w h type))
-    shifted true b c = kinds 0
-    shifted false true c = kinds 1
-    shifted false false true = kinds 2
-    shifted false false false = no-size
+-- what is said of a line of a table, and of the lines after it
+pub _▸_ : {A C : Type 0} → A → C → A × C
+a ▸ c = (a, c)
 
+infixr 4 _▸_
 -- two ways to go on from a check
 pub then-same : {A C : Type 0} (c : Check A) (f g : A → Check C) → ((a : A) → c ≡ accept a → f a ≡ g a) → then c f ≡ then c g
 then-same (accept a) f g same = same a refl
@@ -39,22 +37,10 @@ planned-at k n p d e =
 
 module _ (call : Call) (b : Block) where
   pub accepting : (p : Plan) (d : Depth) → Accepted call b p d → verdict call b ≡ accept (p, d)
-  accepting p d a =
-      ap (λ c. then (then c (with-depth (b .depth))) (judged (table call b))) (a .planned)
+  accepting p d a = ap (λ c. then (then c (with-depth (b .depth))) (judged (table call b))) (a .planned)
       ∙ ap (λ c. then (then c (λ d. accept (p, d))) (judged (table call b))) (a .deep)
-      ∙ cleared (table call b) (p, d) (
-        ap when (a .eob),
-        (
-          ap when (a .rows),
-          (
-            ap when (a .enough),
-            (
-              ap when (a .placed .seen),
-              (ap when (a .placed .stride), (ap when (a .placed .inside), (a .ranged, (a .covered, (a .sound, tt))))),
-            ),
-          ),
-        ),
-      )
+      ∙ cleared (table call b) (p, d) (ap when (a .eob) ▸ ap when (a .rows) ▸ ap when (a .enough) ▸ ap when (a .placed .seen)
+      ▸ ap when (a .placed .stride) ▸ ap when (a .placed .inside) ▸ a .ranged ▸ a .covered ▸ a .sound ▸ tt)
 
   pub accepted-by : (p : Plan) (d : Depth) → verdict call b ≡ accept (p, d) → Accepted call b p d
   accepted-by p d e =

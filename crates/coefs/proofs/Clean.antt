@@ -2,10 +2,10 @@
 use mathlib.Core.Path.{_≡_, refl, sym, ap, _∙_, subst}
 use mathlib.Core.Bool.{Bool, true, false, _&&_}
 use mathlib.Core.List.{List}
-use Prim.Native.Nat.{ℕ, zero, suc, _+_, _-_, _*_, _%_, _≤_, _<_}
-use native.Mathlib.Nat.{mul-le-mul-right, add-mul-mod-self-right, mod-eq-of-lt}
+use Prim.Native.Nat.{ℕ, zero, suc, _+_, _-_, _*_, _%_, _≤_, _<_, _/_}
+use native.Mathlib.Nat.{mul-le-mul-right, add-mul-mod-self-right, mod-eq-of-lt, div-add-mod', div-lt-iff-lt-mul, mod-lt}
 use native.Mathlib.Omega.{arith}
-use borrow.Author.Tests.{lt-leb, le-leb, ltb-true, ltb-false}
+use borrow.Author.Tests.{lt-leb, le-leb, ltb-true, ltb-false, leb-true}
 use lib.Dec.{leb, ltb}
 use lib.IntN.{ℤ, pos, negsuc}
 use mir.Syntax.{w32}
@@ -13,7 +13,8 @@ use mir.Val.{SFits, toZ, ofZ}
 use mir.ValLaws.{toZ-ofZ}
 use Rattle.whole.specs.Lists.{at}
 use Rattle.whole.proofs.Counts.{last-or-less}
-use Rattle.coefs.specs.Coefs.{nonzero, in-dead-row}
+use Rattle.coefs.specs.Coefs.{nonzero, in-dead-row, Covers}
+use Rattle.whole.proofs.Clips.{by-test, either}
 
 -- nothing is found below n
 abbrev pub Clean : (ℕ → Bool) → ℕ → Type 0
@@ -40,19 +41,24 @@ in-dead r h c x y l g = ap (λ (n : ℕ). leb r n && nonzero (at c (x * h + y)))
 
 -- the live rows of column x
 pub clean-live : (r h : ℕ) (c : List ℤ) (x y : ℕ) → y ≤ h → y ≤ r → Clean (in-dead-row r h c) (x * h) → Clean (in-dead-row r h c) (x * h + y)
-clean-live r h c x y l g f j k = go (ltb j (x * h)) refl
-  where
-    go : (b : Bool) → ltb j (x * h) ≡ b → in-dead-row r h c j ≡ false
-    go true e = f j (ltb-true j (x * h) e)
-    go false e =
-        let q : x * h ≤ j = ltb-false j (x * h) e in let p : x * h + (j - x * h) ≡ j = omega arith in
-        subst (λ (i : ℕ). in-dead-row r h c i ≡ false) p (in-live r h c x (j - x * h) (omega arith) (omega arith))
+clean-live r h c x y l g f j k = either (ltb j (x * h)) (λ e. f j (ltb-true j (x * h) e))
+    (λ e. let q : x * h ≤ j = ltb-false j (x * h) e in let p : x * h + (j - x * h) ≡ j = omega arith in
+    subst (λ (i : ℕ). in-dead-row r h c i ≡ false) p (in-live r h c x (j - x * h) (omega arith) (omega arith)))
+
+-- a place in a buffer of rows is in one of them
+pub row-in : (w h j : ℕ) → j < w * h → (j % h < h) × (j / h < w)
+row-in w zero j l = absurd (omega arith)
+row-in w (suc h) j l = let p : 0 < suc h = omega arith in (mod-lt j p, div-lt-iff-lt-mul p .1 l)
+
+-- where the rows from r on are zero there is no stray
+pub no-stray : (w h r : ℕ) (c : List ℤ) → Covers w h c r → (j : ℕ) → j < w * h → in-dead-row r h c j ≡ false
+no-stray w h r c z j l = by-test (λ b. b && nonzero (at c j) ≡ false) (leb r (j % h))
+    (λ e. let p : j % h + j / h * h ≡ j = omega (arith, div-add-mod' j h) in let k = row-in w h j l in
+    ap nonzero (ap (at c) (sym p) ∙ z (j % h) (j / h) (leb-true r (j % h) e) (k .0) (k .1))) (λ e. refl)
 
 -- the code's test, of the bits
 pub bits-not-0 : (z : ℤ) → (ofZ w32 z ≡ 0 → ⊥) → nonzero z ≡ true
-bits-not-0 (pos zero) h = absurd (h refl)
-bits-not-0 (pos (suc n)) h = refl
-bits-not-0 (negsuc n) h = refl
+bits-not-0 = elim [ pos zero ↦ λ h. absurd (h refl) | pos (suc n) ↦ λ h. refl | negsuc n ↦ λ h. refl ]
 
 pub bits-0 : (z : ℤ) → SFits w32 z → ofZ w32 z ≡ 0 → z ≡ pos 0
 bits-0 z f e = sym (toZ-ofZ w32 z f) ∙ ap (toZ w32) e

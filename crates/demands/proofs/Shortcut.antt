@@ -1,6 +1,6 @@
 -- Demand 3, eob 0: the shortcut leaves what the passes leave, where nothing stands after the first coefficient and no pixel exceeds the maximum.
 use mathlib.Core.Path.{_≡_, refl, sym, ap, ap₂, _∙_, subst}
-use mathlib.Core.Bool.{Bool, true, false, cond, _||_}
+use mathlib.Core.Bool.{Bool, false, cond, _||_}
 use mathlib.Core.List.{List, [], _∷_, _++_}
 use Prim.Native.Nat.{ℕ, zero, suc, _+_, _*_, _≤_, _<_}
 use native.Mathlib.Nat.{mul-le-mul-right}
@@ -12,7 +12,7 @@ use lib.ListN.{getD, length, set, replicate, drop, getD-replicate}
 use lib.Signed.{ltZ}
 use Rattle.whole.specs.Numbers.{_>>_, round2, clip, outside, low, high}
 use Rattle.whole.specs.Lists.{at, tab}
-use Rattle.whole.proofs.Clips.{clip-low, clip-high, clip-none, clip-kept}
+use Rattle.whole.proofs.Clips.{clip-low, clip-high, clip-none, clip-kept, by-test, either}
 use Rattle.whole.proofs.Counts.{tab-ext, any-none, first-none}
 use Rattle.whole.proofs.Parts.{pp, nn, rep-self, rep-add, parts-lt}
 use Rattle.whole.proofs.Ranges.{zero-inside, scaled-inside, rounded-twice, rounded-mono, clip-floor, clip-top}
@@ -55,11 +55,8 @@ last v = v *ℤ pos 181 +ℤ pos 2176 >> 12
 
 prescale-inside : (m w h : ℕ) (v : ℤ) → outside v (low m) (high m) ≡ false → outside (prescale w h v) (low m) (high m) ≡ false
 unfolding Rattle.residual.specs.Blocks.prescale
-prescale-inside m w h v e = go (eqb (w * 2) h || eqb (h * 2) w)
-  where
-    go : (t : Bool) → outside (cond t (level v) v) (low m) (high m) ≡ false
-    go true = scaled-inside m v e
-    go false = e
+prescale-inside m w h v e = by-test (λ t. outside (cond t (level v) v) (low m) (high m) ≡ false) (eqb (w * 2) h || eqb (h * 2) w)
+    (λ _. scaled-inside m v e) (λ _. e)
 
 -- a DCT pass along a side, on its first element alone
 dc-side : (n m : ℕ) (v : ℤ) → Sided n → outside v (low m) (high m) ≡ false
@@ -87,8 +84,7 @@ module _ (w h s : ℕ) (w-sided : Sided w) (h-sided : Sided h) (d : Depth) (c : 
 
   row-in : (x : ℕ) → x < w → entered 𝓦 c 0 x ≡ only e x
   row-in zero l = ap (λ (i : ℕ). prescale w h (at c i)) (omega arith)
-  row-in (suc x) l =
-      ap (prescale w h) (alone (0 + suc x * h) (omega (arith, side-bounds h h-sided .0))
+  row-in (suc x) l = ap (prescale w h) (alone (0 + suc x * h) (omega (arith, side-bounds h h-sided .0))
       (omega (arith, side-bounds h h-sided .0, mul-le-mul-right {m = suc (suc x)} {n = w} h l))) ∙ prescale-zero w h
 
   row-is : row 𝓦 c 0 ≡ record { values = replicate w (level e); mark = false }
@@ -117,9 +113,7 @@ module _ (w h s : ℕ) (w-sided : Sided w) (h-sided : Sided h) (d : Depth) (c : 
 ends : (d : Depth) → (maximum d + pp (last (low (column-range d))) ≤ nn (last (low (column-range d))))
     × (maximum d + nn (last (high (column-range d))) ≤ pp (last (high (column-range d))))
 unfolding _>>_
-ends Eight = (omega arith, omega arith)
-ends Ten = (omega arith, omega arith)
-ends Twelve = (omega arith, omega arith)
+ends = elim [ Eight ↦ (omega arith, omega arith) | Ten ↦ (omega arith, omega arith) | Twelve ↦ (omega arith, omega arith) ]
 
 module _ (d : Depth) (q : ℕ) (small : q ≤ maximum d) (v : ℤ) where
   abbrev lo : ℤ
@@ -139,14 +133,11 @@ module _ (d : Depth) (q : ℕ) (small : q ≤ maximum d) (v : ℤ) where
   above u h = ap natAbs (clip-top (pos q +ℤ last u) (maximum d) (omega (arith, ends d .1, rep-add (rep-self (pos q)) (rep-self (last u)) .rep)))
 
   pub saturates : added (clip v lo hi) ≡ added v
-  saturates = go (ltZ v lo) (ltZ hi v) refl refl
-    where
-      go : (s t : Bool) → ltZ v lo ≡ s → ltZ hi v ≡ t → added (clip v lo hi) ≡ added v
-      go true t a b = ap added (clip-low v lo hi a) ∙ below lo (omega arith)
-          ∙ sym (below v (rounded-mono v lo (omega (arith, parts-lt v lo (subst T (sym a) tt)))))
-      go false true a b = ap added (clip-high v lo hi a b) ∙ above hi (omega arith)
-          ∙ sym (above v (rounded-mono hi v (omega (arith, parts-lt hi v (subst T (sym b) tt)))))
-      go false false a b = ap added (clip-none v lo hi a b)
+  saturates = either (ltZ v lo) (λ a. ap added (clip-low v lo hi a) ∙ below lo (omega arith)
+      ∙ sym (below v (rounded-mono v lo (omega (arith, parts-lt v lo (subst T (sym a) tt))))))
+      (λ a. either (ltZ hi v) (λ b. ap added (clip-high v lo hi a b) ∙ above hi (omega arith)
+      ∙ sym (above v (rounded-mono hi v (omega (arith, parts-lt hi v (subst T (sym b) tt))))))
+      (λ b. ap added (clip-none v lo hi a b)))
 
 -- ---- the coefficients
 
@@ -169,10 +160,10 @@ module _ (b : Block) (w h s : ℕ) (d : Depth) (good : Accepted (plain (pos 0)) 
   plan-here = dct-dct w h s
 
   sided : Sided w × Sided h
-  sided = sides b plan-here d (plain (pos 0)) good
+  sided = sides good
 
   area-pos : 0 < w * h
-  area-pos = area-positive b plan-here d (plain (pos 0)) good
+  area-pos = area-positive good
 
   first-inside : outside (at (b .coefs) 0) (low (row-range d)) (high (row-range d)) ≡ false
   first-inside = first-none (w * h) (λ i. outside (at (b .coefs) i) (low (row-range d)) (high (row-range d))) (good .ranged) 0 area-pos
@@ -189,15 +180,14 @@ module _ (b : Block) (w h s : ℕ) (d : Depth) (good : Accepted (plain (pos 0)) 
       (residual (way plan-here d) (b .coefs) 1) (v .columns) y) (place (b .plane) y x) 0 in
       add-pixel (maximum d) q (shortcut plan-here (at (b .coefs) 0)) ≡ add-pixel (maximum d) q (residual (way plan-here d) (b .coefs) 1 y x)
   unfolding Rattle.residual.specs.Blocks.shortcut
-  pixel-same y x k l =
-      let rs = residual (way plan-here d) (b .coefs) 1 in
+  pixel-same y x k l = let rs = residual (way plan-here d) (b .coefs) 1 in
       let q = getD (add-rows (maximum d) (b .plane .pixels) (begins (lies (b .plane))) rs (v .columns) y) (place (b .plane) y x) 0 in
       let n = length (b .plane .pixels) in
       let waits = pixel-waits (maximum d) (b .plane .pixels) (begins (lies (b .plane))) (v .columns) (v .rows)
       (row-fits (b .plane .width) n w h v (good .placed)) (rows-apart (b .plane .width) n w h v (good .placed)) rs y x k l in
       sym (saturates d q (subst (λ (n : ℕ). n ≤ maximum d) (sym waits) (small y x k l)) (round2 (level (prescale w h (at (b .coefs) 0))) s))
       ∙ ap (add-pixel (maximum d) q) (sym (residual-is w h s (sided .0) (sided .1) d (b .coefs) first-inside alone y x
-      (omega (arith, k, rows-in w h v (good .placed .seen) .1)) (omega (arith, l, columns-in w h v (good .placed .seen) .1))))
+      (omega (arith, rows-in w h v (good .placed .seen) .1)) (omega (arith, columns-in w h v (good .placed .seen) .1))))
 
   one-pass : by-shortcut b plan-here d ≡ by-passes b plan-here d (way plan-here d) 1
   one-pass = λ i. record {
@@ -208,7 +198,6 @@ module _ (b : Block) (w h s : ℕ) (d : Depth) (good : Accepted (plain (pos 0)) 
   }
 
   pub shortcut-whole : outcome (plain (pos 0)) b ≡ whole b plan-here d
-  shortcut-whole =
-      opened b plan-here d (plain (pos 0)) good ∙ one-pass
+  shortcut-whole = opened good ∙ one-pass
       ∙ rows-whole b plan-here d 1 (sided .0) (omega (arith, side-bounds h (sided .1) .0))
       (one-row w h s (sided .0) (sided .1) d (b .coefs) first-inside alone)

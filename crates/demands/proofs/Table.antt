@@ -1,19 +1,19 @@
 -- "Checked in this order; the first that applies is answered, and none otherwise": a call is accepted just when no number of the table holds,
 -- by the propositions of `NoNumber`.
 use mathlib.Core.Path.{_≡_, refl, ap, ap₂, _∙_}
-use mathlib.Core.Bool.{Bool, true, false, not, cond, _&&_, _||_}
+use mathlib.Core.Bool.{true, false, not, _&&_, _||_}
 use mathlib.Core.Option.{none}
 use Prim.Native.Nat.{ℕ, _+_, _*_, _%_, _≤_, _<_}
 use native.Mathlib.Nat.{mod-lt}
 use native.Mathlib.Omega.{arith}
-use borrow.Author.Tests.{ltb-false, le-ltb, leb-true, le-leb, eqb-true, eqb-false, ne-eqb, not-false}
-use lib.Dec.{eqb, leb}
+use borrow.Author.Tests.{ltb-false, le-ltb, leb-true, le-leb, eqb-false, ne-eqb, not-false}
+use lib.Dec.{leb}
 use lib.IntN.{ℤ, pos, negsuc, natAbs}
 use lib.ListN.{length}
 use lib.Signed.{_≤ℤ_}
 use Rattle.whole.specs.Numbers.{outside, low, high}
 use Rattle.whole.specs.Lists.{at}
-use Rattle.whole.specs.Checks.{accept, refuse}
+use Rattle.whole.specs.Checks.{accept}
 use Rattle.whole.proofs.Checks.{refuse≢accept, same-accept}
 use Rattle.whole.proofs.Clips.{or-false, and-true}
 use Rattle.whole.proofs.Counts.{any-none, first-none, none-first}
@@ -35,36 +35,22 @@ use Rattle.checks.specs.Accepted.{Accepted}
 use Rattle.demands.specs.Demands.{Announces, Even, NoNumber}
 use Rattle.checks.proofs.Verdicts.{accepting, accepted-by}
 use Rattle.checks.proofs.Covering.{strays-none, covers-of}
+use Rattle.bitdepth.proofs.Cases.{by-depth}
 
 -- ---- a Boolean of the table beside its proposition
 
 -- 3
 depth-is : (n : ℕ) (d : Depth) → depth n ≡ accept d → n ≡ bit-depth d
-depth-is n d e = eight (eqb n 8) refl e
-  where
-    twelve : (t : Bool) → eqb n 12 ≡ t → cond t (accept Twelve) (refuse 3 0) ≡ accept d → n ≡ bit-depth d
-    twelve true f e = eqb-true n 12 f ∙ ap bit-depth (same-accept Twelve d e)
-    twelve false f e = absurd (refuse≢accept 3 0 d e)
-
-    ten : (t : Bool) → eqb n 10 ≡ t → cond t (accept Ten) (cond (eqb n 12) (accept Twelve) (refuse 3 0)) ≡ accept d → n ≡ bit-depth d
-    ten true f e = eqb-true n 10 f ∙ ap bit-depth (same-accept Ten d e)
-    ten false f e = twelve (eqb n 12) refl e
-
-    eight : (t : Bool) → eqb n 8 ≡ t
-        → cond t (accept Eight) (cond (eqb n 10) (accept Ten) (cond (eqb n 12) (accept Twelve) (refuse 3 0))) ≡ accept d → n ≡ bit-depth d
-    eight true f e = eqb-true n 8 f ∙ ap bit-depth (same-accept Eight d e)
-    eight false f e = ten (eqb n 10) refl e
+depth-is n d = by-depth (λ c. c ≡ accept d → n ≡ bit-depth d) n (λ k q e. q ∙ ap bit-depth (same-accept k d e)) (λ e. absurd (refuse≢accept 3 0 d e))
 
 depth-of : (d : Depth) → depth (bit-depth d) ≡ accept d
-depth-of Eight = refl
-depth-of Ten = refl
-depth-of Twelve = refl
+depth-of = elim [ Eight ↦ refl | Ten ↦ refl | Twelve ↦ refl ]
 
 -- 7
 even-is : (k : Width) (bytes : ℤ) → odd k bytes ≡ false → Even k bytes
 even-is Wide bytes e =
     let f = eqb-false (natAbs bytes % 2) 1 e in let l : natAbs bytes % 2 < 2 = mod-lt (natAbs bytes) (omega arith) in
-    omega (arith, f)
+    omega arith
 even-is Narrow bytes e = tt
 
 is-even : (k : Width) (bytes : ℤ) → Even k bytes → odd k bytes ≡ false
@@ -100,13 +86,11 @@ module _ (b : Block) (p : Plan) (d : Depth) where
   announced-is : (call : Call) → Accepted call b p d → Announces call p (b .coefs)
   announced-is (plain (pos n)) a = starts-in (pos n) refl
   announced-is (plain (negsuc n)) a = let e : true ≡ false = a .eob in let z : _≡_ {A = ℕ} 0 1 = cc in let f : ⊥ = omega arith in absurd f
-  announced-is (live r) a =
-      let q = and-true (leb 1 r) (leb r (p .h)) (not-false (leb 1 r && leb r (p .h)) (a .rows)) in
+  announced-is (live r) a = let q = and-true (leb 1 r) (leb r (p .h)) (not-false (leb 1 r && leb r (p .h)) (a .rows)) in
       (leb-true 1 r (q .0), leb-true r (p .h) (q .1), covers-of (p .w) (p .h) (in-h (a .planned)) (b .coefs) r (a .covered))
 
   pub no-number : (call : Call) → Accepted call b p d → NoNumber call b p d
-  no-number call a =
-      let v = b .plane .view in let seen = a .placed .seen in
+  no-number call a = let v = b .plane .view in let seen = a .placed .seen in
       let stride = or-false (odd (b .plane .width) (v .stride .0)) _ (a .placed .stride) in
       let here = row-here (length (b .plane .pixels)) (lies (b .plane)) (a .placed .inside) in record {
         planned = a .planned;
@@ -141,9 +125,7 @@ module _ (b : Block) (p : Plan) (d : Depth) where
       }
     where
       eob : (call : Call) → Announces call p (b .coefs) → bad-eob call ≡ false
-      eob (plain (pos n)) a = refl
-      eob (plain (negsuc n)) a = absurd (a .le)
-      eob (live r) a = refl
+      eob = elim [ plain (pos n) ↦ λ a. refl | plain (negsuc n) ↦ λ a. absurd (a .le) | live r ↦ λ a. refl ]
 
       live-rows : (call : Call) → Announces call p (b .coefs) → bad-rows call (p .h) ≡ false
       live-rows (plain e) a = refl

@@ -1,6 +1,6 @@
 -- No second outcome meets a public call's contract.
 use mathlib.Core.Path.{_≡_, refl, sym, ap, _∙_}
-use mathlib.Core.Bool.{false, cond}
+use mathlib.Core.Bool.{cond}
 use mathlib.Core.List.{List}
 use Prim.Native.Nat.{ℕ}
 use lib.Dec.{eqb}
@@ -26,42 +26,26 @@ refusal n i =
     (cond (eqb n 6) FewCoefficients (cond (eqb n 20) NotVisible (cond (eqb n 7) BadStride (cond (eqb n 8) RowOutside
     (cond (eqb n 9) (OutOfRange i) (cond (eqb n 10) (Stray i) (AboveMaximum i)))))))))))
 
-refusal-is : (r : Refusal) → refusal (number r) (place r) ≡ r
-unfolding refusal
-refusal-is NoSize = refl
-refusal-is NoType = refl
-refusal-is NoDepth = refl
-refusal-is NegativeEob = refl
-refusal-is NoSuchRows = refl
-refusal-is FewCoefficients = refl
-refusal-is NotVisible = refl
-refusal-is BadStride = refl
-refusal-is RowOutside = refl
-refusal-is (OutOfRange i) = refl
-refusal-is (Stray i) = refl
-refusal-is (AboveMaximum i) = refl
-
 back : Answers.Answer → Answer
 back a = cond (eqb (a .number) 0) (Done (a .mark)) (Refused (refusal (a .number) (a .place)))
 
-not-zero : (r : Refusal) → eqb (number r) 0 ≡ false
-not-zero NoSize = refl
-not-zero NoType = refl
-not-zero NoDepth = refl
-not-zero NegativeEob = refl
-not-zero NoSuchRows = refl
-not-zero FewCoefficients = refl
-not-zero NotVisible = refl
-not-zero BadStride = refl
-not-zero RowOutside = refl
-not-zero (OutOfRange i) = refl
-not-zero (Stray i) = refl
-not-zero (AboveMaximum i) = refl
-
 back-is : (r : Answer) → back (answer-of r) ≡ r
-unfolding back
+unfolding refusal back
 back-is (Done b) = refl
-back-is (Refused r) = (λ i. cond (not-zero r i) (Done false) (Refused (refusal-is r i)))
+back-is (Refused r) = elim r [
+  | NoSize ↦ refl
+  | NoType ↦ refl
+  | NoDepth ↦ refl
+  | NegativeEob ↦ refl
+  | NoSuchRows ↦ refl
+  | FewCoefficients ↦ refl
+  | NotVisible ↦ refl
+  | BadStride ↦ refl
+  | RowOutside ↦ refl
+  | OutOfRange i ↦ refl
+  | Stray i ↦ refl
+  | AboveMaximum i ↦ refl
+]
 
 pub one-answer : {o : Outcome} {r r′ : Answer} {ps ps′ : List ℕ} {c c′ : List ℤ} → Meets o (answer-of r) ps c
     → Meets o (answer-of r′) ps′ c′ → (r ≡ r′) × (ps ≡ ps′) × (c ≡ c′)

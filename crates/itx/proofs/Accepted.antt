@@ -1,5 +1,5 @@
 -- What an accepted block gives the two ways, and what they leave is the outcome.
-use mathlib.Core.Path.{_≡_, sym, ap, _∙_, subst, subst⁻¹}
+use mathlib.Core.Path.{_≡_, sym, ap, _∙_, subst, subst⁻¹, refl}
 use mathlib.Core.Bool.{Bool, true, false, not, cond, _&&_, _||_}
 use mathlib.Core.List.{List}
 use Prim.Native.Nat.{ℕ, _*_, _≤_}
@@ -24,8 +24,8 @@ use Rattle.levels.proofs.Manners.{wht-alone}
 use Rattle.bitdepth.specs.declared.Depth.{Depth}
 use Rattle.bitdepth.specs.Depths.{row-range}
 use Rattle.levels.specs.declared.Plan.{Plan}
-use Rattle.levels.specs.Plans.{among, shift-0, shift-1, shift-2, shift-of, Sizes, every, small, only-4x4, has, TxType, kinds-of, plan}
-use Rattle.levels.proofs.Sizes.{plan-of, plan-sided}
+use Rattle.levels.specs.Plans.{shift-of, Sizes, every, small, only-4x4, has, TxType, kinds-of, plan}
+use Rattle.levels.proofs.Sizes.{plan-of, plan-sided, by-shift}
 use Rattle.levels.proofs.Types.{by-types}
 use Rattle.strided.specs.Planes.{lies, spot-outside}
 use Rattle.strided.specs.declared.Spot.{Spot}
@@ -62,24 +62,20 @@ abbrev fits : TxType → Bool
 fits t = (at-home (t .sizes) (t .rows) && at-home (t .sizes) (t .columns)) && (not (is-wht (t .rows)) || is-wht (t .columns))
 
 or-first : (a b : Bool) → T a → T (a || b)
-or-first true b t = tt
-or-first false b t = absurd t
+or-first = elim [ true ↦ λ b t. tt | false ↦ λ b t. absurd t ]
 
 or-second : (a b : Bool) → T b → T (a || b)
-or-second true b t = tt
-or-second false b t = t
+or-second = elim [ true ↦ λ b t. tt | false ↦ λ b t. t ]
 
 module _ (w h : ℕ) where
   lined : (s : Sizes) (k : Kind) → T (at-home s k) → T (has s w h) → Lined k w × Lined k h
-  lined only-4x4 k t e =
-      let v = and-yes (eqb w 4) (eqb h 4) e in
+  lined only-4x4 k t e = let v = and-yes (eqb w 4) (eqb h 4) e in
       (or-second (not (four-only k)) (eqb w 4) (v .0), or-second (not (four-only k)) (eqb h 4) (v .1))
   lined small k t e = (or-first (not (four-only k)) (eqb w 4) t, or-first (not (four-only k)) (eqb h 4) t)
   lined every k t e = (or-first (not (four-only k)) (eqb w 4) t, or-first (not (four-only k)) (eqb h 4) t)
 
   with-wht : (t : Bool) (k : Kind) → T (not t || is-wht k) → T t → k ≡ Wht
-  with-wht true k e f = wht-alone k e
-  with-wht false k e f = absurd f
+  with-wht = elim [ true ↦ λ k e f. wht-alone k e | false ↦ λ k e f. absurd f ]
 
   of-type : (t : TxType) → T (fits t) → T (has (t .sizes) w h) → Fitting w h (t .rows, t .columns)
   of-type t e f =
@@ -91,22 +87,14 @@ module _ (w h : ℕ) where
       }
 
   pub fitting : (k : Kind × Kind) (type : ℕ) → kinds-of w h type ≡ accept k → Fitting w h k
-  fitting k type =
-      by-types fits (λ c. c ≡ accept k → Fitting w h k) w h type (λ e. absurd (refuse≢accept 2 0 k e))
+  fitting k type = by-types fits (λ c. c ≡ accept k → Fitting w h k) w h type (λ e. absurd (refuse≢accept 2 0 k e))
       (λ t e f s. subst (Fitting w h) (same-accept (t .rows, t .columns) k s) (of-type t e f)) tt
 
 shift-most : (w h s : ℕ) → shift-of w h ≡ accept s → s ≤ 2
-shift-most w h s = go (among w h shift-0) (among w h shift-1) (among w h shift-2)
-  where
-    go : (a b c : Bool) → cond a (accept 0) (cond b (accept 1) (cond c (accept 2) (refuse 1 0))) ≡ accept s → s ≤ 2
-    go true b c e = omega (arith, same-accept 0 s e)
-    go false true c e = omega (arith, same-accept 1 s e)
-    go false false true e = omega (arith, same-accept 2 s e)
-    go false false false e = absurd (refuse≢accept 1 0 s e)
+shift-most w h s = by-shift w h (λ c. c ≡ accept s → s ≤ 2) (λ k l b e. omega (arith, same-accept k s e)) (λ e. absurd (refuse≢accept 1 0 s e))
 
 pub sized : (w h type : ℕ) (p : Plan) → plan w h type ≡ accept p → Sized p
-sized w h type p e =
-    let s = plan-sided w h type p e in let k = plan-of w h type p e in
+sized w h type p e = let s = plan-sided w h type p e in let k = plan-of w h type p e in
     let f = fitting w h (p .rows, p .columns) type (k .kinds-are) in record {
       width = s .0;
       height = s .1;
@@ -117,73 +105,67 @@ sized w h type p e =
     }
 
 -- no more rows than there are
-pub suits-inside : (call : Call) (b : Block) (p : Plan) (d : Depth) → Accepted call b p d → {r : ℕ} → Suits call p (b .coefs) r → r ≤ p .h
-suits-inside (plain eob) b p d a u = u .0
-suits-inside (live n) b p d a u = subst⁻¹ (λ (r : ℕ). r ≤ p .h) u (live-inside (live n) b p d a)
+pub suits-inside : {call : Call} {b : Block} {p : Plan} {d : Depth} → Accepted call b p d → {r : ℕ} → Suits call p (b .coefs) r → r ≤ p .h
+suits-inside {call = plain eob} a u = u .0
+suits-inside {call = live n} {p = p} a u = subst⁻¹ (λ (r : ℕ). r ≤ p .h) u (live-inside a)
 
 -- what meets an outcome meets an equal one
 pub met : {o o′ : Outcome} {a : Answer} {ps : List ℕ} {cs : List ℤ} → o ≡ o′ → Meets o a ps cs → Meets o′ a ps cs
 met {a = a} {ps = ps} {cs = cs} = subst (λ (o : Outcome). Meets o a ps cs)
 
+pub itself : (o : Outcome) → Meets o (o .answer) (o .pixels) (o .coefs)
+itself o = record { answer-is = refl; pixels-are = refl; coefs-are = refl }
+
 -- ---- a block as a call is given it
 
-module _ (e : Engine) (call : Call) (b : Block) where
+pub refusal-left : (e : Engine) (call : Call) (b : Block) (r : Refusal) → verdict call b ≡ refuse (number r) (place r)
+    → Meets (left e call b) (Rattle.whole.specs.Answers.refusal (number r) (place r)) (b .plane .pixels) (b .coefs)
+refusal-left e call b r f = met (ap (outcome-of (way-by e) call b) (sym f)) (itself (outcome-of (way-by e) call b (refuse (number r) (place r))))
+
+module _ (e : Engine) {call : Call} {b : Block} {p : Plan} {d : Depth} (a : Accepted call b p d) (s : Spot) (turned : s ≡ lies (b .plane)) where
   abbrev ps : List ℕ
   ps = b .plane .pixels
 
   abbrev c : List ℤ
   c = b .coefs
 
-  pub refusal-left : (r : Refusal) → verdict call b ≡ refuse (number r) (place r)
-      → Meets (left e call b) (Rattle.whole.specs.Answers.refusal (number r) (place r)) ps c
-  refusal-left r f =
-      let o = ap (outcome-of (way-by e) call b) (sym f) in record {
-        answer-is = ap (λ (o : Outcome). o .answer) o;
-        pixels-are = ap (λ (o : Outcome). o .pixels) o;
-        coefs-are = ap (λ (o : Outcome). o .coefs) o;
-      }
+  pub ready : Ready p s ps c
+  ready = record {
+    sized = sized (b .w) (b .h) (b .type) p (a .planned);
+    coefs = record {
+      count = ltb-false (length c) (p .w * p .h) (a .enough);
+      small = λ i l. let m = row-reach d in inside-abs (at c i) (low (row-range d)) (high (row-range d))
+          (first-none (p .w * p .h) (λ i. outside (at c i) (low (row-range d)) (high (row-range d))) (a .ranged) i l)
+          (omega (arith, size m)) (omega arith);
+    };
+    columns-in = subst⁻¹ (λ (s : Spot). s .columns ≤ p .w) turned (columns-in (p .w) (p .h) (b .plane .view) (a .placed .seen) .1);
+    rows-in = subst⁻¹ (λ (s : Spot). s .rows ≤ p .h) turned (rows-in (p .w) (p .h) (b .plane .view) (a .placed .seen) .1);
+    inside = ap (spot-outside (length ps)) turned ∙ a .placed .inside;
+  }
 
-  module _ (p : Plan) (d : Depth) (a : Accepted call b p d) (s : Spot) (turned : s ≡ lies (b .plane)) where
-    pub ready : Ready p s ps c
-    ready = record {
-      sized = sized (b .w) (b .h) (b .type) p (a .planned);
-      coefs = record {
-        count = ltb-false (length c) (p .w * p .h) (a .enough);
-        small = λ i l. let m = row-reach d in
-            inside-abs (at c i) (low (row-range d)) (high (row-range d))
-            (first-none (p .w * p .h) (λ i. outside (at c i) (low (row-range d)) (high (row-range d))) (a .ranged) i l)
-            (omega (arith, size m, m .small)) (omega (arith, m .small));
-      };
-      columns-in = subst⁻¹ (λ (s : Spot). s .columns ≤ p .w) turned (columns-in (p .w) (p .h) (b .plane .view) (a .placed .seen) .1);
-      rows-in = subst⁻¹ (λ (s : Spot). s .rows ≤ p .h) turned (rows-in (p .w) (p .h) (b .plane .view) (a .placed .seen) .1);
-      inside = ap (spot-outside (length ps)) turned ∙ a .placed .inside;
-    }
+  abbrev long : ℕ → Outcome
+  long r = by-passes b p d (way-by e p d) r
 
-    abbrev long : ℕ → Outcome
-    long r = by-passes b p d (way-by e p d) r
+  taken : (t : Bool) → short call p ≡ t → left e call b ≡ cond t (by-shortcut b p d) (long (live-rows call p))
+  taken t f = ap (outcome-of (way-by e) call b) (accepting call b p d a) ∙ ap (λ (t : Bool). cond t (by-shortcut b p d) (long (live-rows call p))) f
 
-    taken : (t : Bool) → short call p ≡ t → left e call b ≡ cond t (by-shortcut b p d) (long (live-rows call p))
-    taken t f = ap (outcome-of (way-by e) call b) (accepting call b p d a) ∙ ap (λ (t : Bool). cond t (by-shortcut b p d) (long (live-rows call p))) f
+  -- rows that the call may leave out change nothing
+  suited : (k : Call) (r : ℕ) → Accepted k b p d → Suits k p c r → long r ≡ long (live-rows k p)
+  suited (plain eob) r a u = rows-all b p d e r (sides a .0) (u .0) (u .1)
+  suited (live n) r a u = ap long u
 
-    -- rows that the call may leave out change nothing
-    suited : (k : Call) (r : ℕ) → Accepted k b p d → Suits k p c r → long r ≡ long (live-rows k p)
-    suited (plain eob) r a u = rows-all b p d e r (sides b p d (plain eob) a .0) (u .0) (u .1)
-    suited (live n) r a u = ap long u
+  pub passes-left : (r : ℕ) {mark : Bool} {ps′ : List ℕ} {c′ : List ℤ} → short call p ≡ false → Suits call p c r
+      → Passed e p d s r ps c mark ps′ c′ → Meets (left e call b) (acceptance mark) ps′ c′
+  passes-left r f u m = met (suited call r a u ∙ sym (taken false f)) (record {
+    answer-is = ap acceptance (m .mark-is);
+    pixels-are = m .pixels-are ∙ ap (λ (s : Spot). added d s ps (residual (way-by e p d) c r)) turned;
+    coefs-are = m .coefs-are;
+  })
 
-    pub passes-left : (r : ℕ) {mark : Bool} {ps′ : List ℕ} {c′ : List ℤ} → short call p ≡ false → Suits call p c r
-        → Passed e p d s r ps c mark ps′ c′ → Meets (left e call b) (acceptance mark) ps′ c′
-    passes-left r f u m =
-        let o = suited call r a u ∙ sym (taken false f) in record {
-          answer-is = ap acceptance (m .mark-is) ∙ ap (λ (o : Outcome). o .answer) o;
-          pixels-are = m .pixels-are ∙ ap (λ (s : Spot). added d s ps (residual (way-by e p d) c r)) turned ∙ ap (λ (o : Outcome). o .pixels) o;
-          coefs-are = m .coefs-are ∙ ap (λ (o : Outcome). o .coefs) o;
-        }
-
-    pub shortcut-left : {ps′ : List ℕ} {c′ : List ℤ} → short call p ≡ true → Shortened p d s ps c ps′ c′
-        → Meets (left e call b) (acceptance false) ps′ c′
-    shortcut-left f m =
-        let o = sym (taken true f) in record {
-          answer-is = ap (λ (o : Outcome). o .answer) o;
-          pixels-are = m .pixels-are ∙ ap (λ (s : Spot). added d s ps (λ y x. shortcut p (at c 0))) turned ∙ ap (λ (o : Outcome). o .pixels) o;
-          coefs-are = m .coefs-are ∙ ap (λ (o : Outcome). o .coefs) o;
-        }
+  pub shortcut-left : {ps′ : List ℕ} {c′ : List ℤ} → short call p ≡ true → Shortened p d s ps c ps′ c′
+      → Meets (left e call b) (acceptance false) ps′ c′
+  shortcut-left f m = met {a = acceptance false} (sym (taken true f)) (record {
+    answer-is = refl;
+    pixels-are = m .pixels-are ∙ ap (λ (s : Spot). added d s ps (λ y x. shortcut p (at c 0))) turned;
+    coefs-are = m .coefs-are;
+  })

@@ -25,7 +25,7 @@ use Rattle.residual.specs.declared.Engine.the-variants.{First, Spec}
 use Rattle.itx.specs.Inner.{left, Allowed}
 use Rattle.checks.specs.Inner.{adst-planned}
 use Rattle.itx.specs.Spec.{spec-outcome}
-use Rattle.itx.proofs.Accepted.{met}
+use Rattle.itx.proofs.Accepted.{met, itself}
 
 -- ---- what an engine is asked for
 
@@ -49,9 +49,7 @@ module _ (p : Plan) (d : Depth) where
   enter-av1 v = ap (λ (z : ℤ). if-wht (p .rows) (v >> 2) (cond (eqb (p .w * 2) (p .h) || eqb (p .h * 2) (p .w)) z v)) (sym (by-181 v))
 
   held-av1 : (d : Depth) (v : ℤ) → clip v (low (column-range d)) (high (column-range d)) ≡ held (max (bit-depth d + 6) 16) v
-  held-av1 Eight v = refl
-  held-av1 Ten v = refl
-  held-av1 Twelve v = refl
+  held-av1 = elim [ Eight ↦ λ v. refl | Ten ↦ λ v. refl | Twelve ↦ λ v. refl ]
 
   pub between-av1 : (v : ℤ) → way p d .between v ≡ av1-way p d .between v
   between-av1 v = ap (if-wht (p .rows) v) (held-av1 d (round2 v (p .shift)))
@@ -97,4 +95,4 @@ module _ (call : Call) (b : Block) where
 
   pub spec-refused : adst-planned (planned b) ≡ true → Meets (spec-outcome call b) (refusal 2 0) (b .plane .pixels) (b .coefs)
   unfolding spec-outcome
-  spec-refused h = met (ap (by-spec call b) (sym (barred (planned b) h))) (record { answer-is = refl; pixels-are = refl; coefs-are = refl })
+  spec-refused h = met (ap (by-spec call b) (sym (barred (planned b) h))) (itself (by-spec call b (refuse 2 0)))

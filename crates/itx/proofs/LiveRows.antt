@@ -1,6 +1,6 @@
 -- Zero rows may be left out: a transform with r live rows is the transform with all of them, wherever the rows from r on are zero.
 use mathlib.Core.Path.{_≡_, refl, sym, ap, ap₂, _∙_, subst}
-use mathlib.Core.Bool.{Bool, true, false, cond, _||_}
+use mathlib.Core.Bool.{Bool, false, cond, _||_}
 use mathlib.Core.List.{List, _++_}
 use Prim.Native.Nat.{ℕ, zero, suc, _*_, _≤_, _<_, _+_}
 use native.Mathlib.Nat.{div-eq-of-lt}
@@ -11,7 +11,7 @@ use lib.IntN.{ℤ, pos, _*ℤ_}
 use lib.Pow.{pow-lt}
 use Rattle.whole.specs.Numbers.{_>>_, round2, clip, low, high}
 use Rattle.whole.specs.Lists.{at}
-use Rattle.whole.proofs.Clips.{clip-inside}
+use Rattle.whole.proofs.Clips.{clip-inside, by-test}
 use Rattle.whole.proofs.Counts.{tab-ext, any-ext, any-upto}
 use Rattle.whole.proofs.Ranges.{zero-inside}
 use Rattle.levels.specs.Sides.{Side, side, len}
@@ -48,19 +48,10 @@ module _ (𝓦 : Way) (q : Quiet 𝓦) (c : List ℤ) (r : ℕ) (r≤h : r ≤ �
   zero-row y a b = ap (𝓦 .row) (tab-ext (𝓦 .w) (entered 𝓦 c y) (λ i. pos 0) (λ x l. ap (𝓦 .enter) (covers y x a b l) ∙ q .enter-zero))
 
   middle-same : (y x : ℕ) → y < 𝓦 .h → middle 𝓦 c r y x ≡ middle 𝓦 c (𝓦 .h) y x
-  middle-same y x b = go (ltb y r) refl ∙ sym (shown (lt-ltb y (𝓦 .h) b))
-    where
-      v : ℤ
-      v = 𝓦 .between (at (row 𝓦 c y .values) x)
-
-      shown : {s t : Bool} → s ≡ t → cond s v (pos 0) ≡ cond t v (pos 0)
-      shown e = ap (λ (t : Bool). cond t v (pos 0)) e
-
-      go : (t : Bool) → ltb y r ≡ t → cond (ltb y r) v (pos 0) ≡ v
-      go true e = shown e
-      go false e =
-          let z = zero-row y (ltb-false y r e) b in
-          shown e ∙ sym (ap (λ (s : Passed). 𝓦 .between (at (s .values) x)) z ∙ ap (𝓦 .between) (q .row-zero x) ∙ q .between-zero)
+  middle-same y x b = let v = 𝓦 .between (at (row 𝓦 c y .values) x) in
+      by-test (λ t. cond t v (pos 0) ≡ v) (ltb y r) (λ _. refl) (λ e. sym (ap (λ (s : Passed). 𝓦 .between (at (s .values) x))
+      (zero-row y (ltb-false y r e) b) ∙ ap (𝓦 .between) (q .row-zero x) ∙ q .between-zero))
+      ∙ sym (ap (λ (t : Bool). cond t v (pos 0)) (lt-ltb y (𝓦 .h) b))
 
   column-same : (x : ℕ) → column 𝓦 c r x ≡ column 𝓦 c (𝓦 .h) x
   column-same x = ap (𝓦 .column) (tab-ext (𝓦 .h) _ _ (λ y b. middle-same y x b))
@@ -82,24 +73,16 @@ round-zero (suc k) = ap pos (div-eq-of-lt (omega (arith, pow-lt {i = k} {j = suc
 
 pub prescale-zero : (w h : ℕ) → prescale w h (pos 0) ≡ pos 0
 unfolding Rattle.residual.specs.Blocks.prescale
-prescale-zero w h = go (eqb (w * 2) h || eqb (h * 2) w)
-  where
-    go : (t : Bool) → cond t (round2 (pos 0 *ℤ pos 181) 8) (pos 0) ≡ pos 0
-    go true = round-zero 8
-    go false = refl
-
-shift-zero : pos 0 >> 2 ≡ pos 0
-unfolding _>>_
-shift-zero = refl
+prescale-zero w h = by-test (λ t. cond t (round2 (pos 0 *ℤ pos 181) 8) (pos 0) ≡ pos 0) (eqb (w * 2) h || eqb (h * 2) w)
+    (λ _. round-zero 8) (λ _. refl)
 
 enter-zero : (k : Kind) (w h : ℕ) → if-wht k (pos 0 >> 2) (prescale w h (pos 0)) ≡ pos 0
-enter-zero k w h = split (λ z. z ≡ pos 0) k (pos 0 >> 2) (prescale w h (pos 0)) (λ t. shift-zero) (prescale-zero w h)
-
-clip-zero : (s m : ℕ) → clip (round2 (pos 0) s) (low m) (high m) ≡ pos 0
-clip-zero s m = ap (λ (z : ℤ). clip z (low m) (high m)) (round-zero s) ∙ clip-inside (pos 0) (low m) (high m) (zero-inside m)
+unfolding _>>_
+enter-zero k w h = split (λ z. z ≡ pos 0) k (pos 0 >> 2) (prescale w h (pos 0)) (λ t. refl) (prescale-zero w h)
 
 between-zero : (k : Kind) (s m : ℕ) → if-wht k (pos 0) (clip (round2 (pos 0) s) (low m) (high m)) ≡ pos 0
-between-zero k s m = split (λ z. z ≡ pos 0) k (pos 0) (clip (round2 (pos 0) s) (low m) (high m)) (λ t. refl) (clip-zero s m)
+between-zero k s m = split (λ z. z ≡ pos 0) k (pos 0) (clip (round2 (pos 0) s) (low m) (high m)) (λ t. refl)
+    (ap (λ (z : ℤ). clip z (low m) (high m)) (round-zero s) ∙ clip-inside (pos 0) (low m) (high m) (zero-inside m))
 
 pub quiet : (e : Engine) (p : Plan) (d : Depth) → Sided (p .w) → Quiet (way-by e p d)
 quiet e p d s = record {

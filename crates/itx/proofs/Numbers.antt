@@ -1,6 +1,6 @@
 -- What the number of an answer tells of the table: which numbers there are, and which lines found nothing.
 use mathlib.Core.Path.{_≡_, refl, sym, _∙_, subst}
-use mathlib.Core.Bool.{Bool, true, false, cond, not, _&&_}
+use mathlib.Core.Bool.{Bool, true, cond, not, _&&_}
 use mathlib.Core.List.{List, [], _∷_, _++_}
 use mathlib.Core.Option.{Option, none, some}
 use Prim.Native.Nat.{ℕ}
@@ -10,17 +10,19 @@ use lib.IntN.{ℤ}
 use lib.ListN.{length}
 use mir.Facts.{and-yes}
 use Rattle.whole.specs.Checks.{Check, accept, refuse, then, unless-at, Line, judged}
-use Rattle.whole.proofs.Checks.{Clear}
+use Rattle.whole.proofs.Checks.{Clear, Refusing, refusing-then, refusing-at}
 use Rattle.bitdepth.specs.declared.Depth.{Depth}
-use Rattle.bitdepth.specs.declared.Depth.the-variants.{Eight, Ten, Twelve}
 use Rattle.bitdepth.specs.Depths.{depth}
 use Rattle.levels.specs.declared.Plan.{Plan}
-use Rattle.levels.specs.Plans.{among, shift-0, shift-1, shift-2, shift-of, kinds-of, with-kinds, with-shift, plan}
+use Rattle.levels.specs.Plans.{shift-of, kinds-of, with-kinds, with-shift, plan}
 use Rattle.levels.proofs.Types.{by-types}
 use Rattle.strided.specs.Planes.{lies}
 use Rattle.residual.specs.Blocks.{Way, way}
 use Rattle.checks.specs.Table.{Block, Call, plain, lengths-lines, range-line, stray-line, pixel-line, with-depth, table, verdict, short, live-rows}
 use Rattle.itx.specs.Calls.{by-shortcut, by-passes, outcome-of, outcome}
+use Rattle.whole.proofs.Clips.{by-test}
+use Rattle.levels.proofs.Sizes.{by-shift}
+use Rattle.bitdepth.proofs.Cases.{by-depth}
 
 -- ---- the number of a check
 
@@ -31,11 +33,8 @@ num (refuse n i) = n
 
 pub answered : (engine : Plan → Depth → Way) (call : Call) (b : Block) (c : Check (Plan × Depth)) → outcome-of engine call b c .answer .number ≡ num c
 answered engine call b (refuse n i) = refl
-answered engine call b (accept (p, d)) = go (short call p)
-  where
-    go : (t : Bool) → cond t (by-shortcut b p d) (by-passes b p d (engine p d) (live-rows call p)) .answer .number ≡ 0
-    go true = refl
-    go false = refl
+answered engine call b (accept (p, d)) = by-test
+    (λ t. cond t (by-shortcut b p d) (by-passes b p d (engine p d) (live-rows call p)) .answer .number ≡ 0) (short call p) (λ _. refl) (λ _. refl)
 
 pub answer-num : (call : Call) (b : Block) → outcome call b .answer .number ≡ num (verdict call b)
 unfolding outcome
@@ -45,8 +44,7 @@ answer-num call b = answered way call b (verdict call b)
 
 -- a refusal's number passes a test
 abbrev pub By : {A : Type 0} → (ℕ → Bool) → Check A → Type 0
-By ok (accept a) = Unit {0}
-By ok (refuse n i) = T (ok n)
+By ok = Refusing (λ n i. T (ok n))
 
 -- each number of a table does
 abbrev pub all-by : {A : Type 0} → (ℕ → Bool) → List (Line A) → Bool
@@ -66,35 +64,23 @@ module _ (ok : ℕ → Bool) where
   num-by (refuse n i) z t = t
 
   pub then-by : {A C : Type 0} (c : Check A) (f : A → Check C) → By ok c → ((a : A) → By ok (f a)) → By ok (then c f)
-  then-by (accept a) f t g = g a
-  then-by (refuse n i) f t g = t
+  then-by c f t g = refusing-then (λ n i. T (ok n)) c f t (λ a e. g a)
 
   pub judged-by : (A : Type 0) (ls : List (Line A)) (a : A) → T (all-by ok ls) → By ok (judged ls a)
   judged-by A [] a t = tt
-  judged-by A (l ∷ ls) a t = let u = and-yes (ok (l .0)) (all-by ok ls) t in go (l .1 a) (judged ls a) (u .0) (judged-by A ls a (u .1))
-    where
-      go : (o : Option ℕ) (c : Check A) → T (ok (l .0)) → By ok c → By ok (unless-at o (l .0) c)
-      go (some i) c t u = t
-      go none c t u = u
-
-  first-of-three : {A : Type 0} (a b c : Bool) (x y z : A) (n : ℕ) → T (ok n)
-      → By ok (cond a (accept x) (cond b (accept y) (cond c (accept z) (refuse n 0))))
-  first-of-three true b c x y z n t = tt
-  first-of-three false true c x y z n t = tt
-  first-of-three false false true x y z n t = tt
-  first-of-three false false false x y z n t = t
+  judged-by A (l ∷ ls) a t = let u = and-yes (ok (l .0)) (all-by ok ls) t in
+      refusing-at (λ n i. T (ok n)) (l .1 a) (l .0) (judged ls a) (λ i e. u .0) (λ e. judged-by A ls a (u .1))
 
   pub shift-by : (w h : ℕ) → T (ok 1) → By ok (shift-of w h)
-  shift-by w h = first-of-three (among w h shift-0) (among w h shift-1) (among w h shift-2) 0 1 2 1
+  shift-by w h t = by-shift w h (By ok) (λ s l b. tt) t
 
   pub depth-by : (n : ℕ) → T (ok 3) → By ok (depth n)
-  depth-by n = first-of-three (eqb n 8) (eqb n 10) (eqb n 12) Eight Ten Twelve 3
+  depth-by n t = by-depth (By ok) n (λ d e. tt) t
 
   -- a plan and a depth, and then a table
   module _ (w h type n : ℕ) (one : By ok (shift-of w h)) (two : T (ok 2)) (three : By ok (depth n)) where
     plan-by : By ok (plan w h type)
-    plan-by =
-        then-by (shift-of w h) (with-shift w h type) one
+    plan-by = then-by (shift-of w h) (with-shift w h type) one
         (λ s. then-by (kinds-of w h type) (with-kinds w h s) (by-types (λ t. true) (By ok) w h type two (λ t u e. tt) tt) (λ k. tt))
 
     pub planned-by : By ok (then (plan w h type) (with-depth n))
@@ -112,15 +98,13 @@ late call b = range-line (b .coefs) ∷ stray-line call (b .coefs) ∷ pixel-lin
 
 -- a refusal has a number other than 0
 pub refusal-number : (call : Call) (b : Block) (n i : ℕ) → verdict call b ≡ refuse n i → n ≡ 0 → ⊥
-refusal-number call b n i e =
-    let ok = another 0 in
+refusal-number call b n i e = let ok = another 0 in
     let by-table = checked-by ok (b .w) (b .h) (b .type) (b .depth) (shift-by ok (b .w) (b .h) tt) tt (depth-by ok (b .depth) tt) (table call b) tt in
     not-another 0 n (subst (By ok) e by-table)
 
 -- the plain call is never refused by 10: its line of that number finds nothing, and no other has it
 pub plain-never-10 : (b : Block) (eob : ℤ) → outcome (plain eob) b .answer .number ≡ 10 → ⊥
-plain-never-10 b eob e =
-    let ok = another 10 in
+plain-never-10 b eob e = let ok = another 10 in
     let others = early (plain eob) b ++ range-line (b .coefs) ∷ pixel-line (b .plane .pixels) (lies (b .plane)) ∷ [] in
     let by-others = checked-by ok (b .w) (b .h) (b .type) (b .depth) (shift-by ok (b .w) (b .h) tt) tt (depth-by ok (b .depth) tt) others tt in
     not-another 10 (num (verdict (plain eob) b)) (num-by ok (verdict (plain eob) b) tt by-others) (sym (answer-num (plain eob) b) ∙ e)
@@ -137,8 +121,7 @@ module _ {A : Type 0} where
   -- lines of other numbers found nothing
   pub clear-before : (n : ℕ) (ls ms : List (Line A)) (a : A) → T (all-by (another n) ls) → num (judged (ls ++ ms) a) ≡ n → Clear ls a
   clear-before n [] ms a t e = tt
-  clear-before n (l ∷ ls) ms a t e =
-      let u = and-yes (another n (l .0)) (all-by (another n) ls) t in
+  clear-before n (l ∷ ls) ms a t e = let u = and-yes (another n (l .0)) (all-by (another n) ls) t in
       go (l .1 a) (judged (ls ++ ms) a) (u .0) e (clear-before n ls ms a (u .1))
     where
       go : (o : Option ℕ) (c : Check A) → T (another n (l .0)) → num (unless-at o (l .0) c) ≡ n → (num c ≡ n → Clear ls a) → (o ≡ none) × Clear ls a
@@ -153,8 +136,7 @@ module _ {A : Type 0} where
 -- a refusal by 9 tells that there are a plan and a depth, and that none of the numbers checked between them and 9 holds
 pub past-8 : (call : Call) (b : Block) → outcome call b .answer .number ≡ 9
     → (a : Plan × Depth) × (then (plan (b .w) (b .h) (b .type)) (with-depth (b .depth)) ≡ accept a) × Clear (early call b) a
-past-8 call b e =
-    let ok = another 9 in
+past-8 call b e = let ok = another 9 in
     let by-others = planned-by ok (b .w) (b .h) (b .type) (b .depth) (shift-by ok (b .w) (b .h) tt) tt (depth-by ok (b .depth) tt) in
     let k = then (plan (b .w) (b .h) (b .type)) (with-depth (b .depth)) in
     let f = open-num 9 k (judged (table call b)) by-others (sym (answer-num call b) ∙ e) in

@@ -1,12 +1,14 @@
 -- What holds of the types of the table holds of what is answered.
+use mathlib.Core.Path.{sym, subst}
 use mathlib.Core.Bool.{Bool, true, false, cond, _&&_}
 use mathlib.Core.List.{List, [], _∷_}
 use Prim.Native.Nat.{ℕ}
 use lib.Dec.{T, eqb}
 use mir.Facts.{and-yes}
 use Rattle.whole.specs.Checks.{Check, accept, refuse}
+use Rattle.whole.proofs.Clips.{by-test}
 use Rattle.levels.specs.declared.Kind.{Kind}
-use Rattle.levels.specs.Plans.{TxType, has, types, kinds-in, kinds-of}
+use Rattle.levels.specs.Plans.{TxType, has, types, kinds-at, kinds-in, kinds-of}
 
 -- a test of the types, computed once
 module _ (test : TxType → Bool) where
@@ -19,16 +21,9 @@ module _ (test : TxType → Bool) where
     pub by-types : T (all types) → P (kinds-of w h n)
     by-types = go types
       where
-        stands : (b : Bool) (t : TxType) → (T b → P (accept (t .rows, t .columns))) → P (cond b (accept (t .rows, t .columns)) (refuse 2 0))
-        stands true t f = f tt
-        stands false t f = no
-
-        chosen : (b : Bool) {k l : Check (Kind × Kind)} → P k → P l → P (cond b k l)
-        chosen true p q = p
-        chosen false p q = q
-
         go : (ts : List TxType) → T (all ts) → P (kinds-in ts w h n)
         go [] e = no
-        go (t ∷ ts) e =
-            let both = and-yes (test t) (all ts) e in
-            chosen (eqb n (t .number)) (stands (has (t .sizes) w h) t (yes t (both .0))) (go ts (both .1))
+        go (t ∷ ts) e = let both = and-yes (test t) (all ts) e in
+            by-test (λ b. P (cond b (kinds-at (t .sizes) w h (t .rows) (t .columns)) (kinds-in ts w h n))) (eqb n (t .number))
+            (λ _. by-test (λ b. P (cond b (accept (t .rows, t .columns)) (refuse 2 0))) (has (t .sizes) w h)
+            (λ e. yes t (both .0) (subst T (sym e) tt)) (λ _. no)) (λ _. go ts (both .1))

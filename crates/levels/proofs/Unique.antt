@@ -14,25 +14,9 @@ use Rattle.levels.specs.Plans.{shift-of, plan}
 use Rattle.levels.specs.Inner.{shift-check}
 use Rattle.levels.specs.Plans.{decision-of}
 
-abbrev shift-back : Check ℕ → SizeCheck
-shift-back (accept s) = Shift s
-shift-back (refuse n i) = NoShift
-
-shift-back-is : (r : SizeCheck) → shift-back (shift-check r) ≡ r
-shift-back-is (Shift s) = refl
-shift-back-is NoShift = refl
-
 pub one-shift : (w h : ℕ) (r r′ : SizeCheck) → shift-check r ≡ shift-of w h → shift-check r′ ≡ shift-of w h → r ≡ r′
-one-shift w h r r′ = one-answer shift-check shift-back shift-back-is
-
-abbrev plan-back : Check Plan → Decision
-plan-back (accept p) = Planned p
-plan-back (refuse n i) = cond (eqb n 1) NoSize NoType
-
-plan-back-is : (r : Decision) → plan-back (decision-of r) ≡ r
-plan-back-is (Planned p) = refl
-plan-back-is NoSize = refl
-plan-back-is NoType = refl
+one-shift w h r r′ = one-answer shift-check (elim [ accept s ↦ Shift s | refuse n i ↦ NoShift ]) (elim [ Shift s ↦ refl | NoShift ↦ refl ])
 
 pub one-plan : (w h type : ℕ) (r r′ : Decision) → decision-of r ≡ plan w h type → decision-of r′ ≡ plan w h type → r ≡ r′
-one-plan w h type r r′ = one-answer decision-of plan-back plan-back-is
+one-plan w h type r r′ = one-answer decision-of (elim [ accept p ↦ Planned p | refuse n i ↦ cond (eqb n 1) NoSize NoType ])
+    (elim [ Planned p ↦ refl | NoSize ↦ refl | NoType ↦ refl ])

@@ -10,11 +10,10 @@ use lib.IntN.{ℤ, pos, _*ℤ_}
 use lib.ListN.{length}
 use Rattle.whole.specs.Lists.{at}
 use Rattle.whole.specs.Checks.{Check, accept, refuse, then, unless, unless-at}
-use Rattle.whole.proofs.Counts.{tab-ext, first-ext}
+use Rattle.whole.proofs.Counts.{tab-ext, first-ext, beyond-at}
 use Rattle.bitdepth.specs.Depths.{depth}
 use Rattle.lossless.specs.Writes.{down, along, coefficient, coefficients, out-of-bounds, checks, left, written}
 use Rattle.lossless.proofs.Exact.{unwht-ext}
-use Rattle.lossless.proofs.Over.{over-beyond}
 
 -- beyond the sixteen the buffer stays, whatever the answer
 pub beyond-stays : (r c : List ℤ) (n i : ℕ) → 16 ≤ i → 16 ≤ length c → at (written r c n .elements) i ≡ at c i
@@ -22,7 +21,7 @@ unfolding written coefficients
 beyond-stays r c n i l k = go (checks r c n)
   where
     go : (v : Check (Unit {0})) → at (left r c v .elements) i ≡ at c i
-    go (accept u) = over-beyond 16 (coefficient r) c i l k
+    go (accept u) = beyond-at (coefficients r) c refl i (pos 0) l
     go (refuse m j) = refl
 
 abbrev short : List ℤ → List ℤ → Bool
@@ -42,8 +41,7 @@ module _ (r r′ : List ℤ) (same : (i : ℕ) → i < 16 → at r i ≡ at r′
 
   module _ (c c′ : List ℤ) (n : ℕ) (long : 16 ≤ length r) (long′ : 16 ≤ length r′) (room : 16 ≤ length c) (room′ : 16 ≤ length c′) where
     same-checks : checks r c n ≡ checks r′ c′ n
-    same-checks =
-        let e : short r c ≡ false = λ i. le-ltb (length r) 16 long i || le-ltb (length c) 16 room i in
+    same-checks = let e : short r c ≡ false = λ i. le-ltb (length r) 16 long i || le-ltb (length c) 16 room i in
         let e′ : short r′ c′ ≡ false = λ i. le-ltb (length r′) 16 long′ i || le-ltb (length c′) 16 room′ i in
         λ i. then (depth n) (λ d. unless ((e ∙ sym e′) i) 6
         (unless-at (first-ext 16 (λ i. out-of-bounds d (at r i)) (λ i. out-of-bounds d (at r′ i))
@@ -54,5 +52,4 @@ module _ (r r′ : List ℤ) (same : (i : ℕ) → i < 16 → at r i ≡ at r′
     same-answer = ap (λ (v : Check (Unit {0})). left r c v .answer) same-checks ∙ go (checks r′ c′ n)
       where
         go : (v : Check (Unit {0})) → left r c v .answer ≡ left r′ c′ v .answer
-        go (accept u) = refl
-        go (refuse m i) = refl
+        go = elim [ accept u ↦ refl | refuse m i ↦ refl ]

@@ -39,8 +39,7 @@ less-less x y = ring (x ∷ y ∷ []) (var 0 ⊝ (var 0 ⊝ var 1)) (var 1) (ome
 -- the WHT of its own outputs, the last two exchanged: each step is undone by the same step, and the shift is of the same number
 twice : (a b c d : ℤ) → let v = wht a b c d in wht (at v 0) (at v 1) (at v 3) (at v 2) ≡ a ∷ b ∷ d ∷ c ∷ []
 unfolding wht
-twice a b c d =
-    let t0 = a +ℤ b in let t2 = c -ℤ d in let t4 = t0 -ℤ t2 >> 1 in let t3 = t4 -ℤ d in let t1 = t4 -ℤ b in
+twice a b c d = let t0 = a +ℤ b in let t2 = c -ℤ d in let t4 = t0 -ℤ t2 >> 1 in let t3 = t4 -ℤ d in let t1 = t4 -ℤ b in
     let e0 : t0 -ℤ t3 +ℤ t3 ≡ t0 = less-more t0 t3 in let e2 : t2 +ℤ t1 -ℤ t1 ≡ t2 = more-less t2 t1 in
     let e4 : (t0 -ℤ t3 +ℤ t3) -ℤ (t2 +ℤ t1 -ℤ t1) >> 1 ≡ t4 = λ i. e0 i -ℤ e2 i >> 1 in
     let e3 = (λ i. e4 i -ℤ t1) ∙ less-less t4 b in let e1 = (λ i. e4 i -ℤ t3) ∙ less-less t4 d in
@@ -67,16 +66,14 @@ at-four : (f : ℕ → ℤ) (i : ℕ) → i < 4 → at (tab 4 f) i ≡ f i
 at-four f i l = tab-at 4 f (pos 0) i l
 
 pub by-four : (v : ℤ) → v *ℤ pos 4 >> 2 ≡ v
-by-four v =
-    let r = rep-mul (rep-self v) (rep-self (pos 4)) in
-    floor-one (v *ℤ pos 4) 4 (v *ℤ pos 4 >> 2) v (shift-floor (v *ℤ pos 4) 2) (record { low = omega (arith, r .rep); high = omega (arith, r .rep) })
+by-four v = let r = rep-mul (rep-self v) (rep-self (pos 4)) in
+    floor-one (v *ℤ pos 4) 4 (v *ℤ pos 4 >> 2) v (shift-floor (v *ℤ pos 4) 2) (record { low = omega arith; high = omega arith })
 
 -- ---- the block
 
 pub coefficient-at : (r : List ℤ) (y x : ℕ) → y < 4 → x < 4 → at (coefficients r) (y + x * 4) ≡ along r y x *ℤ pos 4
 unfolding coefficients
-coefficient-at r y x k l =
-    let i : (y + x * 4) % 4 ≡ y = omega arith in let j : (y + x * 4) / 4 ≡ x = omega arith in
+coefficient-at r y x k l = let i : (y + x * 4) % 4 ≡ y = omega arith in let j : (y + x * 4) / 4 ≡ x = omega arith in
     tab-at 16 (coefficient r) (pos 0) (y + x * 4) (omega arith) ∙ (λ t. along r (i t) (j t) *ℤ pos 4)
 
 -- "a multiple of four"
@@ -102,15 +99,13 @@ module _ (d : Depth) where
     entered-back y x k l = ap (λ (v : ℤ). v >> 2) (coefficient-at r y x k l) ∙ by-four (along r y x)
 
     middle-back : (y x : ℕ) → y < 4 → x < 4 → middle 𝓦 (coefficients r) 4 y x ≡ down r y x
-    middle-back y x k l =
-        middle-is (coefficients r) y x k
+    middle-back y x k l = middle-is (coefficients r) y x k
         ∙ ap (λ (s : List ℤ). at s x) (of-four-ext (entered 𝓦 (coefficients r) y) (along r y) (λ j b. entered-back y j k b) ∙ forth (down r y))
         ∙ at-four (down r y) x l
 
     -- "Their inverse is exactly that residual"
     pub comes-back : (y x : ℕ) → y < 4 → x < 4 → residual 𝓦 (coefficients r) 4 y x ≡ at r (y * 4 + x)
-    comes-back y x k l =
-        residual-is (coefficients r) y x ∙ ap (λ (s : List ℤ). at s y)
+    comes-back y x k l = residual-is (coefficients r) y x ∙ ap (λ (s : List ℤ). at s y)
         (of-four-ext (λ j. middle 𝓦 (coefficients r) 4 j x) (λ j. down r j x) (λ j b. middle-back j x b l)
         ∙ forth (λ j. at r (j * 4 + x))) ∙ at-four (λ j. at r (j * 4 + x)) y k
 
@@ -123,14 +118,12 @@ module _ (d : Depth) where
           (λ j b. sym (same j x b l) ∙ residual-is c j x) ∙ back (λ j. middle 𝓦 c 4 j x)) ∙ at-four (λ j. middle 𝓦 c 4 j x) y k
 
       along-is : (y x : ℕ) → y < 4 → x < 4 → along r y x ≡ entered 𝓦 c y x
-      along-is y x k l =
-          ap (λ (s : List ℤ). at s x)
+      along-is y x k l = ap (λ (s : List ℤ). at s x)
           (unwht-ext (down r y) (at (of-four (entered 𝓦 c y))) (λ j b. down-is y j k b ∙ middle-is c y j k) ∙ back (entered 𝓦 c y))
           ∙ at-four (entered 𝓦 c y) x l
 
       pub only-these : (i : ℕ) → i < 16 → at c i ≡ at (coefficients r) i
-      only-these i l =
-          let y = i % 4 in let x = i / 4 in let z : y + x * 4 ≡ i = omega arith in let e = fours i l in e
+      only-these i l = let y = i % 4 in let x = i / 4 in let z : y + x * 4 ≡ i = omega arith in let e = fours i l in e
           ∙ ap (λ (v : ℤ). v *ℤ pos 4)
           (sym (along-is y x (omega arith) (omega arith) ∙ ap (λ (k : ℕ). at c k >> 2) z ∙ ap (λ (v : ℤ). v >> 2) e ∙ by-four (q i)))
           ∙ sym (multiple-of-four r i l)
@@ -162,9 +155,7 @@ small-inside : (m : ℕ) (v : ℤ) → 0 < m → natAbs v ≤ m - 1 → outside 
 small-inside m v g l = not-outside (low m) (high m) v (record { above = omega (arith, abs-parts v); below = omega (arith, abs-parts v) })
 
 room : (d : Depth) → (100 * maximum d + 48 ≤ row-range d - 1) × (0 < row-range d)
-room Eight = (omega arith, omega arith)
-room Ten = (omega arith, omega arith)
-room Twelve = (omega arith, omega arith)
+room = elim [ Eight ↦ (lit≤ tt, lit≤ tt) | Ten ↦ (lit≤ tt, lit≤ tt) | Twelve ↦ (lit≤ tt, lit≤ tt) ]
 
 module _ (d : Depth) (r : List ℤ) (small : (i : ℕ) → i < 16 → natAbs (at r i) ≤ maximum d) where
   down-small : (y x : ℕ) → y < 4 → x < 4 → natAbs (down r y x) ≤ 5 * maximum d + 2
@@ -175,8 +166,7 @@ module _ (d : Depth) (r : List ℤ) (small : (i : ℕ) → i < 16 → natAbs (at
 
   -- "each lies in the row range"
   pub in-row-range : (i : ℕ) → i < 16 → outside (at (coefficients r) i) (low (row-range d)) (high (row-range d)) ≡ false
-  in-row-range i l =
-      let v = along r (i % 4) (i / 4) in let four = bound (v ∷ []) ((5 * (5 * maximum d + 2) + 2) ∷ [])
+  in-row-range i l = let v = along r (i % 4) (i / 4) in let four = bound (v ∷ []) ((5 * (5 * maximum d + 2) + 2) ∷ [])
       (along-small (i % 4) (i / 4) (omega arith) (omega arith), tt) (var 0 ⊛ lit (pos 4)) in
       ap (λ (z : ℤ). outside z (low (row-range d)) (high (row-range d))) (multiple-of-four r i l)
-      ∙ small-inside (row-range d) (v *ℤ pos 4) (room d .1) (omega (arith, four, room d .0))
+      ∙ small-inside (row-range d) (v *ℤ pos 4) (room d .1) (omega (arith, room d .0))

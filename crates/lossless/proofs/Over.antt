@@ -5,7 +5,8 @@ use Prim.Native.Nat.{ℕ, zero, suc, _≤_, _<_}
 use native.Mathlib.Omega.{arith}
 use lib.IntN.{ℤ}
 use lib.ListN.{length, set, drop}
-use Rattle.whole.specs.Lists.{at, tab}
+use Rattle.whole.specs.Lists.{tab}
+use Rattle.whole.proofs.Counts.{as-long, tab-length}
 
 -- f 0, .., f (n - 1) written over the first n, and the rest as it was
 abbrev pub over : ℕ → (ℕ → ℤ) → List ℤ → List ℤ
@@ -17,17 +18,4 @@ over-more zero f (x ∷ c) l = refl
 over-more (suc n) f (x ∷ c) l = ap (λ (t : List ℤ). f 0 ∷ t) (over-more n (λ i. f (suc i)) c (omega arith))
 
 pub over-length : (n : ℕ) (f : ℕ → ℤ) (c : List ℤ) → n ≤ length c → length (over n f c) ≡ length c
-over-length zero f c l = refl
-over-length (suc n) f [] l = let z : ⊥ = omega arith in absurd z
-over-length (suc n) f (x ∷ c) l = ap suc (over-length n (λ i. f (suc i)) c (omega arith))
-
-pub over-front : (n : ℕ) (f : ℕ → ℤ) (c : List ℤ) (i : ℕ) → i < n → at (tab n f ++ c) i ≡ f i
-over-front zero f c i l = let z : ⊥ = omega arith in absurd z
-over-front (suc n) f c zero l = refl
-over-front (suc n) f c (suc i) l = over-front n (λ i. f (suc i)) c i (omega arith)
-
-pub over-beyond : (n : ℕ) (f : ℕ → ℤ) (c : List ℤ) (i : ℕ) → n ≤ i → n ≤ length c → at (over n f c) i ≡ at c i
-over-beyond zero f c i l k = refl
-over-beyond (suc n) f [] i l k = let z : ⊥ = omega arith in absurd z
-over-beyond (suc n) f (x ∷ c) zero l k = let z : ⊥ = omega arith in absurd z
-over-beyond (suc n) f (x ∷ c) (suc i) l k = over-beyond n (λ i. f (suc i)) c i (omega arith) (omega arith)
+over-length n f c = as-long (tab n f) c (tab-length n f)

@@ -1,29 +1,28 @@
 -- For the person who uses the writer: the plain call takes what it wrote, and makes p + r of every prediction p.
 use mathlib.Core.Path.{_≡_, refl, sym, ap, _∙_, subst}
-use mathlib.Core.Bool.{Bool, true, false, cond, _||_}
+use mathlib.Core.Bool.{Bool, false, cond, _||_, true≢false}
 use mathlib.Core.List.{List, _++_}
-use mathlib.Core.Option.{Option, none, some}
 use Prim.Native.Nat.{ℕ, zero, suc, _+_, _*_, _≤_, _<_}
 use native.Mathlib.Nat.{le-refl}
 use native.Mathlib.Omega.{arith}
 use borrow.Author.Tests.{ltb-false, le-ltb}
-use lib.Dec.{eqb, ltb}
+use lib.Dec.{ltb, lit≤}
 use lib.IntN.{ℤ, pos, negsuc, negℤ, _+ℤ_, natAbs}
 use lib.ListN.{length, drop, getD}
 use lib.Signed.{ltZ}
-use Rattle.whole.specs.Numbers.{_>>_, outside, low, high}
+use Rattle.whole.specs.Numbers.{outside, low, high}
 use Rattle.whole.specs.Lists.{at, first}
-use Rattle.whole.specs.Checks.{Check, accept, refuse, then, unless, unless-at}
-use Rattle.whole.proofs.Checks.{open-then, open-unless, open-at, same-accept}
+use Rattle.whole.specs.Checks.{Check, accept, refuse}
+use Rattle.whole.proofs.Checks.{open-then, open-unless, open-at, same-accept, Refusing, refusing-then, refusing-unless, refusing-at}
 use Rattle.whole.proofs.Clips.{or-false, clip-inside, inside-abs}
-use Rattle.whole.proofs.Counts.{any-none, first-none, none-first}
+use Rattle.whole.proofs.Counts.{any-none, first-none, none-first, before-at, as-long}
 use Rattle.whole.proofs.Sizes.{abs-neg}
 use Rattle.bitdepth.specs.declared.Depth.{Depth}
 use Rattle.bitdepth.specs.Depths.{depth, row-range, maximum}
 use Rattle.strided.specs.Planes.{Plane, Spotted, lies, place}
 use Rattle.pixels.proofs.Above.{no-above}
 use Rattle.strided.proofs.Rows.{columns-in, rows-in}
-use Rattle.residual.specs.Blocks.{way, entered, row, middle, column, residual, shortcut}
+use Rattle.residual.specs.Blocks.{way, row, column, residual, shortcut}
 use Rattle.residual.specs.Inner.{wht-plan}
 use Rattle.pixels.specs.Adds.{add-pixel}
 use Rattle.itx_1d.specs.Passes.{pass}
@@ -34,46 +33,32 @@ use Rattle.checks.specs.Accepted.{Accepted}
 use Rattle.demands.specs.Demands.{addend}
 use Rattle.demands.proofs.Outcomes.{answer-is, pixel-rule}
 use Rattle.lossless.specs.declared.Written.the-variants.{Done}
-use Rattle.lossless.specs.Writes.{coefficient, coefficients, out-of-bounds, checks, left, written, sent, Meets}
-use Rattle.lossless.proofs.Exact.{of-four-ext, residual-is, middle-is, comes-back, multiple-of-four, in-row-range}
-use Rattle.lossless.proofs.Over.{over-length, over-front}
+use Rattle.lossless.specs.Writes.{coefficients, out-of-bounds, checks, left, written, sent, Meets}
+use Rattle.bitdepth.proofs.Cases.{by-depth}
+use Rattle.ways.proofs.Alike.{residual-alike}
+use Rattle.lossless.proofs.Exact.{comes-back, in-row-range}
 
 -- ---- a block that holds written coefficients
 
 -- WHT_WHT has no shortcut
 never-short : (e : ℕ) → short (plain (pos e)) (wht-plan 0) ≡ false
-never-short zero = refl
-never-short (suc e) = refl
+never-short = elim [ zero ↦ refl | suc e ↦ refl ]
 
 not-negative : (v : ℤ) → ltZ v (pos 0) ≡ false → pos (natAbs v) ≡ v
-not-negative (pos k) e = refl
-not-negative (negsuc k) e = let t : _≡_ {A = Bool} true false = e in let z : _≡_ {A = ℕ} 0 1 = cc in let f : ⊥ = omega arith in absurd f
+not-negative = elim [ pos k ↦ λ e. refl | negsuc k ↦ λ e. absurd (true≢false e) ]
 
 module _ (r : List ℤ) (e : ℕ) (b : Block) (d : Depth) (a : Accepted (plain (pos e)) b (wht-plan 0) d)
     (same : (i : ℕ) → i < 16 → at (b .coefs) i ≡ at (coefficients r) i) where
-  middle-same : (y x : ℕ) → y < 4 → middle (way (wht-plan 0) d) (b .coefs) 4 y x ≡ middle (way (wht-plan 0) d) (coefficients r) 4 y x
-  middle-same y x l =
-      middle-is d (b .coefs) y x l ∙ ap (λ (s : List ℤ). at s x)
-      (of-four-ext (entered (way (wht-plan 0) d) (b .coefs) y) (entered (way (wht-plan 0) d) (coefficients r) y)
-      (λ k g. ap (λ (v : ℤ). v >> 2) (same (y + k * 4) (omega arith)))) ∙ sym (middle-is d (coefficients r) y x l)
-
-  residual-same : (y x : ℕ) → residual (way (wht-plan 0) d) (b .coefs) 4 y x ≡ residual (way (wht-plan 0) d) (coefficients r) 4 y x
-  residual-same y x =
-      residual-is d (b .coefs) y x ∙ ap (λ (s : List ℤ). at s y)
-      (of-four-ext (λ k. middle (way (wht-plan 0) d) (b .coefs) 4 k x)
-      (λ k. middle (way (wht-plan 0) d) (coefficients r) 4 k x) (λ k g. middle-same k x g))
-      ∙ sym (residual-is d (coefficients r) y x)
-
   -- what is addend is the residual
   pub adds : (y x : ℕ) → y < 4 → x < 4 → addend (plain (pos e)) b (wht-plan 0) d y x ≡ at r (y * 4 + x)
   adds y x k l = ap (λ (t : Bool). cond t (shortcut (wht-plan 0) (at (b .coefs) 0))
-      (residual (way (wht-plan 0) d) (b .coefs) 4 y x)) (never-short e) ∙ residual-same y x ∙ comes-back d r y x k l
+      (residual (way (wht-plan 0) d) (b .coefs) 4 y x)) (never-short e)
+      ∙ residual-alike (way (wht-plan 0) d) (b .coefs) (coefficients r) same 4 y x ∙ comes-back d r y x k l
 
   -- no WHT has the mark
   pub unmarked : outcome (plain (pos e)) b .answer ≡ acceptance false
   unfolding pass
-  unmarked =
-      answer-is (plain (pos e)) b (wht-plan 0) d a ∙ (λ i. acceptance (cond (never-short e i) false
+  unmarked = answer-is a ∙ (λ i. acceptance (cond (never-short e i) false
       (any-none 4 (λ y. row (way (wht-plan 0) d) (b .coefs) y .mark) (λ y l. refl) i || any-none 4
       (λ x. column (way (wht-plan 0) d) (b .coefs) 4 x .mark) (λ x l. refl) i)))
 
@@ -82,47 +67,26 @@ module _ (r : List ℤ) (e : ℕ) (b : Block) (d : Depth) (a : Accepted (plain (
       pos (getD (b .plane .pixels) (place (b .plane) y x) 0) in let v = at r (y * 4 + x) in
       outside (p +ℤ v) (pos 0) (pos (maximum d)) ≡ false → pos (getD (outcome (plain (pos e)) b .pixels) (place (b .plane) y x) 0) ≡ p +ℤ v
   unfolding outside
-  restored y x k l f =
-      let q = getD (b .plane .pixels) (place (b .plane) y x) 0 in let v = at r (y * 4 + x) in
-      ap pos (pixel-rule (plain (pos e)) b (wht-plan 0) d a y x k l ∙ ap (add-pixel (maximum d) q)
-      (adds y x (omega (arith, k, rows-in 4 4 (b .plane .view) (a .placed .seen) .1))
-      (omega (arith, l, columns-in 4 4 (b .plane .view) (a .placed .seen) .1)))
+  restored y x k l f = let q = getD (b .plane .pixels) (place (b .plane) y x) 0 in let v = at r (y * 4 + x) in
+      ap pos (pixel-rule a y x k l ∙ ap (add-pixel (maximum d) q)
+      (adds y x (omega (arith, rows-in 4 4 (b .plane .view) (a .placed .seen) .1))
+      (omega (arith, columns-in 4 4 (b .plane .view) (a .placed .seen) .1)))
       ∙ ap natAbs (clip-inside (pos q +ℤ v) (pos 0) (pos (maximum d)) f)) ∙ not-negative (pos q +ℤ v) (or-false _ _ f .0)
 
 -- ---- what the writer left, sent on
 
 -- no refusal has number 0
-abbrev Numbered : {A : Type 0} → Check A → Type 0
-Numbered (accept a) = Unit {0}
-Numbered (refuse m i) = 0 < m
-
-numbered-cond : {A : Type 0} (t : Bool) (k l : Check A) → Numbered k → Numbered l → Numbered (cond t k l)
-numbered-cond true k l h g = h
-numbered-cond false k l h g = g
-
-numbered-then : {A C : Type 0} (k : Check A) (f : A → Check C) → Numbered k → ((a : A) → Numbered (f a)) → Numbered (then k f)
-numbered-then (accept a) f h g = g a
-numbered-then (refuse m i) f h g = h
-
-numbered-unless : {A : Type 0} (t : Bool) (m : ℕ) (k : Check A) → 0 < m → Numbered k → Numbered (unless t m k)
-numbered-unless true m k l h = l
-numbered-unless false m k l h = h
-
-numbered-at : {A : Type 0} (o : Option ℕ) (m : ℕ) (k : Check A) → 0 < m → Numbered k → Numbered (unless-at o m k)
-numbered-at (some i) m k l h = l
-numbered-at none m k l h = h
+abbrev Numbered : ℕ → ℕ → Type 0
+Numbered m i = 0 < m
 
 -- so the writer answers that it is done only where the checks accept
 module _ (r c : List ℤ) (n : ℕ) where
-  numbered : Numbered (checks r c n)
-  numbered =
-      numbered-then (depth n) _ (numbered-cond (eqb n 8) _ _ tt (numbered-cond (eqb n 10) _ _ tt (numbered-cond (eqb n 12) _ _ tt (omega arith))))
-      (λ d.
-      let beyond = first 16 (λ i. out-of-bounds d (at r i)) in
-      numbered-unless (ltb (length r) 16 || ltb (length c) 16) 6 (unless-at beyond 23 (accept tt)) (omega arith)
-      (numbered-at beyond 23 (accept tt) (omega arith) tt))
+  numbered : Refusing Numbered (checks r c n)
+  numbered = refusing-then Numbered (depth n) _ (by-depth (Refusing Numbered) n (λ d e. tt) (lit≤ tt)) (λ d _.
+      refusing-unless Numbered (ltb (length r) 16 || ltb (length c) 16) 6 _ (lit≤ tt)
+      (refusing-at Numbered (first 16 (λ i. out-of-bounds d (at r i))) 23 (accept tt) (λ i _. lit≤ tt) (λ _. tt)))
 
-  done : (v : Check (Unit {0})) → Numbered v → 0 ≡ left r c v .answer .number → v ≡ accept tt
+  done : (v : Check (Unit {0})) → Refusing Numbered v → 0 ≡ left r c v .answer .number → v ≡ accept tt
   done (accept tt) h e = refl
   done (refuse m i) h e = let f : ⊥ = omega arith in absurd f
 
@@ -141,8 +105,7 @@ module _ (r c c′ : List ℤ) (n : ℕ) (w : Meets (written r c n) Done c′) (
   Known d = (16 ≤ length c) × ((i : ℕ) → i < 16 → natAbs (at r i) ≤ maximum d)
 
   known : Known d
-  known =
-      let e = open-then (depth n) _ tt taken in let f = open-unless _ 6 _ tt (e .2) in
+  known = let e = open-then (depth n) _ tt taken in let f = open-unless _ 6 _ tt (e .2) in
       let g = open-at _ 23 (accept tt) tt (f .1) in let m = maximum (e .0) in
       subst Known (same-accept (e .0) d (sym (e .1) ∙ deep)) (
         ltb-false (length c) 16 (or-false (ltb (length r) 16) (ltb (length c) 16) (f .0) .1),
@@ -152,11 +115,11 @@ module _ (r c c′ : List ℤ) (n : ℕ) (w : Meets (written r c n) Done c′) (
 
   held : (i : ℕ) → i < 16 → at c′ i ≡ at (coefficients r) i
   unfolding coefficients
-  held i l = ap (λ (s : List ℤ). at s i) elements-are ∙ over-front 16 (coefficient r) (drop 16 c) i l ∙ sym (multiple-of-four r i l)
+  held i l = ap (λ (s : List ℤ). at s i) elements-are ∙ before-at (coefficients r) c refl i (pos 0) l
 
   long : length c′ ≡ length c
   unfolding coefficients
-  long = ap length elements-are ∙ over-length 16 (coefficient r) c (known .0)
+  long = ap length elements-are ∙ as-long (coefficients r) c refl (known .0)
 
   -- a block of type 16 with these coefficients, on any plane that holds its visible part, none of it above the maximum, with any eob from 0 up
   module _ (plane : Plane) (placed : Spotted (plane .width) (length (plane .pixels)) 4 4 (plane .view))

@@ -16,10 +16,7 @@ back a = cond (eqb (a .number) 0) Done (cond (eqb (a .number) 3) NoDepth (cond (
 
 back-is : (w : Written) → back (answer-of w) ≡ w
 unfolding back
-back-is Done = refl
-back-is NoDepth = refl
-back-is ShortBuffer = refl
-back-is (OutOfBounds i) = refl
+back-is = elim [ Done ↦ refl | NoDepth ↦ refl | ShortBuffer ↦ refl | OutOfBounds i ↦ refl ]
 
 pub one-outcome : {o : Outcome} {w w′ : Written} {c c′ : List ℤ} → Meets o w c → Meets o w′ c′ → (w ≡ w′) × (c ≡ c′)
 one-outcome m m′ = (one-answer answer-of back back-is (m .answer) (m′ .answer), m .elements ∙ sym (m′ .elements))

@@ -70,10 +70,11 @@ module _ (top : ℕ) (ps : List ℕ) (from : ℕ) where
 pub record RowTo (top : ℕ) (ps : List ℕ) (from : ℕ) (v : ℕ → ℤ) (w x : ℕ) (now : List ℕ) : Type 0 where
   pub is : now ≡ add-row top ps from v x
   pub few : x ≤ w
+  pub fits : from + w ≤ length ps
 
-pub row-begun : (top : ℕ) (ps : List ℕ) (from : ℕ) (v : ℕ → ℤ) (w : ℕ) → RowTo top ps from v w 0 ps
+pub row-begun : {top : ℕ} {ps : List ℕ} {from : ℕ} {v : ℕ → ℤ} {w : ℕ} → from + w ≤ length ps → RowTo top ps from v w 0 ps
 unfolding add-row
-row-begun top ps from v w = record { is = refl; few = omega arith }
+row-begun f = record { is = refl; few = omega arith; fits = f }
 
 module _ {top : ℕ} {ps : List ℕ} {from : ℕ} {v : ℕ → ℤ} {w x : ℕ} {now : List ℕ} (h : RowTo top ps from v w x now) where
   pub row-long : length now ≡ length ps
@@ -81,10 +82,17 @@ module _ {top : ℕ} {ps : List ℕ} {from : ℕ} {v : ℕ → ℤ} {w x : ℕ} 
 
   pub row-next : {q : ℕ} {z : ℤ} → x < w → z ≡ v x → q ≡ add-pixel top (getD now (from + x) 0) z
       → RowTo top ps from v w (x + 1) (set now (from + x) q)
-  row-next l g f = record { is = row-more top ps from v x _ (h .is) g f; few = omega arith }
+  row-next l g f = record { is = row-more top ps from v x _ (h .is) g f; few = omega arith; fits = h .fits }
+
+  -- the place of the next pixel is in the slice, as that was and as it is
+  pub row-first : x < w → from + x < length ps
+  row-first l = omega arith
+
+  pub row-still : x < w → from + x < length now
+  row-still l = omega (arith, h .fits, row-long)
 
   pub row-done : w ≤ x → now ≡ add-row top ps from v w
-  row-done l = let all : x ≡ w = omega (arith, h .few) in h .is ∙ ap (add-row top ps from v) all
+  row-done l = let all : x ≡ w = omega arith in h .is ∙ ap (add-row top ps from v) all
 
 -- ---- all rows
 
@@ -119,8 +127,7 @@ module _ (top : ℕ) (ps : List ℕ) (from : ℕ → ℕ) where
         → getD (add-rows top ps from v n k) (from y + x) 0 ≡ add-pixel top (getD ps (from y + x) 0) (v y x)
     unfolding add-rows
     pixel-set zero y x l g m = let f : ⊥ = omega arith in absurd f
-    pixel-set (suc k) y x l g m =
-        let rest = add-rows top ps from v n k in
+    pixel-set (suc k) y x l g m = let rest = add-rows top ps from v n k in
         last-or-less y k (λ (u : ℕ). getD (add-row top rest (from k) (v k) n) (from u + x) 0 ≡ add-pixel top (getD ps (from u + x) 0) (v u x)) g
         (row-own top rest (from k) (v k) n x m (omega (arith, fits k l, rows-length v n k))
         ∙ ap (λ (q : ℕ). add-pixel top q (v k x)) (pixel-waits k x l m))
@@ -153,4 +160,4 @@ module _ {top : ℕ} {ps : List ℕ} {from : ℕ → ℕ} {v : ℕ → ℕ → �
   rows-next l g f = record { is = rows-more top ps from v n y (r .is) g f; few = omega arith }
 
   pub rows-done : h ≤ y → now ≡ add-rows top ps from v n h
-  rows-done l = let all : y ≡ h = omega (arith, r .few) in r .is ∙ ap (add-rows top ps from v n) all
+  rows-done l = let all : y ≡ h = omega arith in r .is ∙ ap (add-rows top ps from v n) all

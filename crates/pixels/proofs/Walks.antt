@@ -6,7 +6,7 @@ use Prim.Native.Nat.{ℕ, _+_, _*_, _≤_, _<_}
 use native.Mathlib.Omega.{arith}
 use lib.Dec.{T}
 use lib.IntN.{ℤ, natAbs}
-use lib.ListN.{getD, set, length}
+use lib.ListN.{length}
 use lib.Signed.{nonNeg}
 use mir.Syntax.{w32, w64}
 use mir.Val.{Fits, SFits}
@@ -17,9 +17,9 @@ use Rattle.strided.specs.declared.Spot.{Spot}
 use Rattle.strided.specs.Planes.{starts, begins, spot-outside}
 use Rattle.strided.proofs.Casts.{read, to-usize}
 use Rattle.strided.proofs.Rows.{row-here}
-use Rattle.pixels.specs.Adds.{add-pixel, add-row}
+use Rattle.pixels.specs.Adds.{add-row}
 use Rattle.pixels.specs.Inner.{left, RowAdds, Adding}
-use Rattle.pixels.proofs.Pixels.{left-small, RowTo, row-long, row-next, RowsTo, rows-long, rows-next}
+use Rattle.pixels.proofs.Pixels.{left-small, RowsTo, rows-long, rows-next}
 
 -- ---- a row
 
@@ -41,7 +41,7 @@ module _ {spot : Spot} {size y : ℕ} {z : ℤ} (r : Row spot size y z) where
 
   -- what a cast of the start asks
   pub counted : size < 18446744073709551616 → T (nonNeg (read w64 z)) × Fits w64 (natAbs (read w64 z))
-  counted g = to-usize _ _ (r .is) (r .above) (omega (arith, r .within))
+  counted g = to-usize _ _ (r .is) (r .above) (omega arith)
 
   -- the slice is still as long
   pub in-slice : {now : ℕ} → now ≡ size → natAbs (read w64 z) + spot .columns ≤ now
@@ -70,21 +70,6 @@ module _ {top : ℕ} {ps : List ℕ} {spot : Spot} {v : ℕ → ℕ → ℤ} {y 
   next e = rows-next (t .to) (t .more) (place (t .row)) e
 
 -- ---- a pixel
-
--- a turn of a loop that adds to a pixel a turn: its place is in the slice, as that was and as it is
-pub record Here (top : ℕ) (ps : List ℕ) (from : ℕ) (v : ℕ → ℤ) (w x : ℕ) (now : List ℕ) : Type 0 where
-  to : RowTo top ps from v w x now
-  more : x < w
-  pub first : from + x < length ps
-  pub still : from + x < length now
-
-module _ {top : ℕ} {ps : List ℕ} {from : ℕ} {v : ℕ → ℤ} {w x : ℕ} {now : List ℕ} where
-  pub here : RowTo top ps from v w x now → x < w → from + w ≤ length ps → Here top ps from v w x now
-  here t l f = record { to = t; more = l; first = omega arith; still = omega (arith, row-long t) }
-
-  pub onward : Here top ps from v w x now → {q : ℕ} {z : ℤ} → z ≡ v x → q ≡ add-pixel top (getD now (from + x) 0) z
-      → RowTo top ps from v w (x + 1) (set now (from + x) q)
-  onward h e f = row-next (h .to) (h .more) e f
 
 -- a number as a local holds it
 pub held-small : (v : ℤ) {n : ℕ} → SFits w32 v → natAbs v ≤ n → natAbs (read w32 v) ≤ n

@@ -24,6 +24,5 @@ same-mark true false i j x y h k e = let z : ⊥ = omega arith in absurd z
 same-mark false true i j x y h k e = let z : ⊥ = omega arith in absurd z
 
 pub one-answer : (a a′ : Answer) → a .number < 256 → a′ .number < 256 → packed a ≡ packed a′ → a ≡ a′
-one-answer a a′ h k e =
-    let s = same-mark (a .mark) (a′ .mark) (a .number) (a′ .number) (a .place) (a′ .place) h k e in
+one-answer a a′ h k e = let s = same-mark (a .mark) (a′ .mark) (a .number) (a′ .number) (a .place) (a′ .place) h k e in
     λ i. record { number = s .0 i; place = s .1 i; mark = s .2 i }

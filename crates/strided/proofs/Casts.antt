@@ -54,8 +54,7 @@ module _ (v : ℤ) (f : SFits w32 v) where
   half-is = ap (λ (z : ℤ). read w32 (shrZ z 2)) (toZ-ofZ w32 v f) ∙ toZ-ofZ w32 (shrZ v 2) (sfits-le (mag-shr v 2) f)
 
   pub quot-fits : SFits w32 (quotZ (read w32 v) (pos 2))
-  quot-fits =
-      subst⁻¹ (λ (z : ℤ). SFits w32 (quotZ z (pos 2))) (toZ-ofZ w32 v f)
+  quot-fits = subst⁻¹ (λ (z : ℤ). SFits w32 (quotZ z (pos 2))) (toZ-ofZ w32 v f)
       (abs-fits {n = 1073741824} (omega (arith, quot-size v, size-32)) tt)
 
   rem-is : read w32 (remZ (read w32 v) (pos 2)) ≡ remZ v (pos 2)
@@ -88,8 +87,5 @@ nonnegative (negsuc n) e = let f : ⊥ = omega (arith, parts-nlt (negsuc n) (pos
 
 -- a number from 0 up as a usize
 pub to-usize : (v z : ℤ) → v ≡ z → nn z ≡ 0 → natAbs z < 18446744073709551616 → T (nonNeg v) × Fits w64 (natAbs v)
-to-usize v z e n l = subst⁻¹ (λ (u : ℤ). T (nonNeg u) × Fits w64 (natAbs u)) e (positive z n, record { fits = l })
-  where
-    positive : (z : ℤ) → nn z ≡ 0 → T (nonNeg z)
-    positive (pos k) n = tt
-    positive (negsuc k) n = let f : ⊥ = omega arith in absurd f
+to-usize v z e n l = subst⁻¹ (λ (u : ℤ). T (nonNeg u) × Fits w64 (natAbs u)) e
+    ((elim z as (λ z. nn z ≡ 0 → T (nonNeg z)) [ pos k ↦ λ n. tt | negsuc k ↦ λ n. absurd (omega arith) ]) n, record { fits = l })

@@ -1,8 +1,8 @@
 -- Rows of a plane: whether they are inside, that two of them do not meet, and what the row lookup hands back.
 use mathlib.Core.Path.{_≡_, refl, sym, ap, _∙_, subst, subst⁻¹}
 use mathlib.Core.Logic.{_≢_, _⊎_, ⊎-elim}
-use mathlib.Core.Bool.{Bool, true, false, not, _&&_}
-use mathlib.Core.List.{List, []}
+use mathlib.Core.Bool.{true, false, not}
+use mathlib.Core.List.{List}
 use Prim.Native.Nat.{ℕ, suc, _+_, _-_, _*_, _≤_, _<_}
 use native.Mathlib.Nat.{mul-le-mul-right}
 use native.Mathlib.Omega.{arith}
@@ -10,12 +10,11 @@ use borrow.Author.Tests.{ltb-true, ltb-false, leb-true, le-leb, lt-leb, not-fals
 use denote.Ref.{RefT}
 use lib.Dec.{ltb, leb}
 use lib.IntN.{ℤ, pos, negsuc, natAbs}
-use lib.ListN.{getD, length, take, drop, length-drop}
-use lib.Seq.{getD-take, getD-drop, length-take-le}
+use lib.ListN.{take, drop}
 use lib.Signed.{nonNeg}
 use Rattle.whole.specs.Checks.{Check, accept, refuse}
 use Rattle.whole.proofs.Checks.{open-unless, same-accept}
-use Rattle.whole.proofs.Clips.{or-false, and-true}
+use Rattle.whole.proofs.Clips.{by-test, or-false, and-true}
 use Rattle.whole.proofs.Counts.{any-none, any-found, none-of-any}
 use Rattle.whole.proofs.Parts.{pp, nn, Rep, abs-parts, rep-self, rep-add, rep-mul}
 use Rattle.levels.specs.Plans.{shift-of}
@@ -24,7 +23,7 @@ use Rattle.strided.specs.declared.Width.{Width}
 use Rattle.strided.specs.declared.Spot.{Spot}
 use Rattle.strided.specs.declared.View.{View}
 use Rattle.strided.specs.Planes.{odd, bytes-of, in-pixels, starts, within, rows-outside, not-in, bad-view, spot, begins, spot-outside}
-use Rattle.strided.specs.Planes.{spotted, Spotted, Plane, place, part-when, has-row, IsPart}
+use Rattle.strided.specs.Planes.{spotted, Spotted, part-when, has-row, row-part, IsPart}
 use Rattle.whole.specs.Checks.{accepted}
 
 nonneg-part : (z : ℤ) → nonNeg z ≡ true → nn z ≡ 0
@@ -32,7 +31,7 @@ nonneg-part (pos n) e = refl
 nonneg-part (negsuc n) e = let z : _≡_ {A = ℕ} 0 1 = cc in let f : ⊥ = omega arith in absurd f
 
 start-parts : (o y : ℕ) (s : ℤ) → Rep (starts o s y) (o + y * pp s) (y * nn s)
-start-parts o y s = let r = rep-add (rep-self (pos o)) (rep-mul (rep-self (pos y)) (rep-self s)) in record { rep = omega (arith, r .rep) }
+start-parts o y s = let r = rep-add (rep-self (pos o)) (rep-mul (rep-self (pos y)) (rep-self s)) in record { rep = omega arith }
 
 -- ---- inside and outside
 
@@ -62,8 +61,7 @@ module _ (size o : ℕ) (s : ℤ) (w h : ℕ) where
 
   -- where every row lies in the slice
   pub row-within : rows-outside size o s w h ≡ false → (y : ℕ) → y < h → (nn (starts o s y) ≡ 0) × (natAbs (starts o s y) + w ≤ size)
-  row-within e y l =
-      let z = starts o s y in
+  row-within e y l = let z = starts o s y in
       let q = and-true (nonNeg z) (leb (natAbs z + w) size) (not-false (within size w z) (none-of-any h _ e y l)) in
       (nonneg-part z (q .0), leb-true _ _ (q .1))
 
@@ -80,39 +78,23 @@ module _ (size o : ℕ) (s : ℤ) (w h room : ℕ) (first : o + w ≤ size) (row
   room-enough k = all-inside size o s w h inside
     where
       inside : (y : ℕ) → y < h → (y * nn s ≤ o + y * pp s) × (o + y * pp s + w ≤ size + y * nn s)
-      inside y l =
-          let m = mul-le-mul-right {m = y} {n = h - 1} (natAbs s) (omega arith) in
-          ⊎-elim (λ e. (omega (arith, m, by-size y, none-of y (e .0)), omega (arith, none-of y (e .0))))
-          (λ e. (omega (arith, none-of y (e .0)), omega (arith, m, by-size y, none-of y (e .0)))) side
+      inside y l = let m = mul-le-mul-right {m = y} {n = h - 1} (natAbs s) (omega arith) in
+          ⊎-elim (λ e. (omega (arith, by-size y, none-of y (e .0)), omega (arith, none-of y (e .0))))
+          (λ e. (omega (arith, none-of y (e .0)), omega (arith, by-size y, none-of y (e .0)))) side
 
   pub room-short : room < (h - 1) * natAbs s → rows-outside size o s w h ≡ true
   room-short k =
       ⊎-elim (λ e. one-before size o s w h (h - 1) (omega arith) (omega (arith, none-of (h - 1) (e .0), by-size (h - 1))))
-      (λ e. one-beyond size o s w h (h - 1) (omega arith) (omega (arith, none-of (h - 1) (e .0), by-size (h - 1))))
-      side
+      (λ e. one-beyond size o s w h (h - 1) (omega arith) (omega (arith, none-of (h - 1) (e .0), by-size (h - 1)))) side
 
 -- ---- rows at least w apart do not meet
 
 apart-by : (o w y u : ℕ) (s : ℤ) → w ≤ natAbs s → y < u → (x t : ℕ) → x < w → t < w → nn (starts o s y) ≡ 0
     → nn (starts o s u) ≡ 0 → natAbs (starts o s y) + x ≡ natAbs (starts o s u) + t → ⊥
-apart-by o w y u (pos k) l b x t h g m n e =
-    omega (
-      arith,
-      start-parts o y (pos k) .rep,
-      start-parts o u (pos k) .rep,
-      abs-parts (starts o (pos k) y),
-      abs-parts (starts o (pos k) u),
-      mul-le-mul-right {m = suc y} {n = u} k b,
-    )
-apart-by o w y u (negsuc k) l b x t h g m n e =
-    omega (
-      arith,
-      start-parts o y (negsuc k) .rep,
-      start-parts o u (negsuc k) .rep,
-      abs-parts (starts o (negsuc k) y),
-      abs-parts (starts o (negsuc k) u),
-      mul-le-mul-right {m = suc y} {n = u} (suc k) b,
-    )
+apart-by o w y u (pos k) l b x t h g m n e = let p = start-parts o y (pos k) in let q = start-parts o u (pos k) in
+    omega (arith, abs-parts (starts o (pos k) y), abs-parts (starts o (pos k) u), mul-le-mul-right {m = suc y} {n = u} k b)
+apart-by o w y u (negsuc k) l b x t h g m n e = let p = start-parts o y (negsuc k) in let q = start-parts o u (negsuc k) in
+    omega (arith, abs-parts (starts o (negsuc k) y), abs-parts (starts o (negsuc k) u), mul-le-mul-right {m = suc y} {n = u} (suc k) b)
 
 -- ---- a view in a slice
 
@@ -145,11 +127,10 @@ module _ (wd : Width) (size w h : ℕ) (v : View) (k : Spotted wd size w h v) wh
   row-fits y l = row-here size (spot wd v) (k .inside) y l .1
 
   pub rows-apart : (y u x t : ℕ) → y < u → u < v .rows → x < v .columns → t < v .columns → begins (spot wd v) y + x ≢ begins (spot wd v) u + t
-  rows-apart y u x t l g m n e =
-      let s = in-pixels wd (v .stride .0) in
+  rows-apart y u x t l g m n e = let s = in-pixels wd (v .stride .0) in
       let wide : w ≤ natAbs s = ltb-false _ _ (or-false (odd wd (v .stride .0)) (ltb (natAbs s) w) (k .stride) .1) in
       let here = row-here size (spot wd v) (k .inside) in
-      apart-by (v .offset) (v .columns) y u s (omega (arith, wide, columns-in w h v (k .seen) .1)) l x t m n (here y (omega arith) .0) (here u g .0) e
+      apart-by (v .offset) (v .columns) y u s (omega (arith, columns-in w h v (k .seen) .1)) l x t m n (here y (omega arith) .0) (here u g .0) e
 
 -- ---- the row lookup
 
@@ -157,65 +138,31 @@ is-accepted : {A : Type 0} (c : Check A) → accepted c ≡ true → (z : A) × 
 is-accepted (accept z) e = (z, refl)
 is-accepted (refuse n i) e = let z : _≡_ {A = ℕ} 0 1 = cc in let f : ⊥ = omega arith in absurd f
 
-module _ (a : Plane) (w h y : ℕ) where
-  abbrev v : View
-  v = a .view
-
-  abbrev size : ℕ
-  size = length (a .pixels)
-
-  abbrev has-it : Bool
-  has-it = has-row (a .width) size v w h y
-
-  abbrev found : Bool → Part
-  found t = part-when t (a .width) v y
-
-  abbrev handed : List ℕ
-  handed = take (found has-it .size) (drop (found has-it .from) (a .pixels))
-
-  by-test : {t : Bool} → has-it ≡ t → handed ≡ take (found t .size) (drop (found t .from) (a .pixels))
-  by-test e = ap (λ (t : Bool). take (found t .size) (drop (found t .from) (a .pixels))) e
-
-  pub empty : has-it ≡ false → handed ≡ []
-  empty e = by-test e
-
+module _ (k : Width) (size : ℕ) (v : View) (w h y : ℕ) where
   -- none of 1, 20, 7 and 8 holds, and the row is visible
   pub record Has : Type 0 where
     pub sized : accepted (shift-of w h) ≡ true
-    pub there : Spotted (a .width) size w h v
+    pub there : Spotted k size w h v
     pub below : y < v .rows
 
-  pub has : has-it ≡ true → Has
-  has e =
-      let p = and-true (accepted (shift-of w h)) _ e in
-      let q = and-true (accepted (spotted (a .width) size w h v)) (ltb y (v .rows)) (p .1) in
-      let k = is-accepted (spotted (a .width) size w h v) (q .0) in
-      record { sized = p .0; there = spotted-by (a .width) size w h v (k .0) (k .1) .0; below = ltb-true y (v .rows) (q .1) }
+  pub has : has-row k size v w h y ≡ true → Has
+  has e = let p = and-true (accepted (shift-of w h)) _ e in
+      let q = and-true (accepted (spotted k size w h v)) (ltb y (v .rows)) (p .1) in
+      let a = is-accepted (spotted k size w h v) (q .0) in
+      record { sized = p .0; there = spotted-by k size w h v (a .0) (a .1) .0; below = ltb-true y (v .rows) (q .1) }
 
-  module _ (e : has-it ≡ true) where
-    fits : place a y (v .columns) ≤ size
-    fits = row-fits (a .width) size w h v (has e .there) y (has e .below)
-
-    -- and some of it is there
-    pub some : 1 ≤ v .columns
-    some = columns-in w h v (has e .there .seen) .0
-
-    pub row-length : length handed ≡ v .columns
-    row-length =
-        ap length (by-test e) ∙ length-take-le (v .columns) (drop (begins (spot (a .width) v) y) (a .pixels))
-        (omega (arith, fits, length-drop (begins (spot (a .width) v) y) (a .pixels)))
+  -- then its visible part is handed back, and not empty
+  pub some : has-row k size v w h y ≡ true → 1 ≤ v .columns
+  some e = columns-in w h v (has e .there .seen) .0
 
   -- in any case the part is inside
-  pub part-fits : {p : Part} → p ≡ found has-it → p .from + p .size ≤ size
-  part-fits e = subst⁻¹ (λ (p : Part). p .from + p .size ≤ size) e (go has-it refl)
-    where
-      go : (t : Bool) → has-it ≡ t → found t .from + found t .size ≤ size
-      go true e = fits e
-      go false e = omega arith
+  pub part-fits : {p : Part} → p ≡ row-part k size v w h y → p .from + p .size ≤ size
+  part-fits e = subst⁻¹ (λ (p : Part). p .from + p .size ≤ size) e (by-test
+      (λ t. part-when t k v y .from + part-when t k v y .size ≤ size) (has-row k size v w h y)
+      (λ e. row-fits k size w h v (has e .there) y (has e .below)) (λ e. omega arith))
 
 -- a slice cut from one place to another is the part between them
 pub is-part : (k : Width) (s r : RefT (List ℕ)) {p q : Part} → p ≡ q → r .ptr .0 ≡ s .ptr .0 → r .ptr .1 ≡ s .ptr .1 + p .from * bytes-of k
     → r .now ≡ take (p .from + p .size - p .from) (drop (p .from) (s .now)) → IsPart k s r q
-is-part k s r {p} e a b c =
-    let n : p .from + p .size - p .from ≡ p .size = omega arith in
+is-part k s r {p} e a b c = let n : p .from + p .size - p .from ≡ p .size = omega arith in
     subst (IsPart k s r) e (record { slice = a; at = b; elements = c ∙ ap (λ (n : ℕ). take n (drop (p .from) (s .now))) n })

@@ -1,5 +1,6 @@
 // Strides and rows of the pixel plane, after src/strided.rs.
 ghost use mathlib.Core.Path.{_≡_};
+ghost use Prim.Native.Nat.{_+_, _≤_};
 ghost use lib.IntN.{natAbs};
 ghost use lib.ListN.{length};
 ghost use Rattle.whole.specs.Checks.{accept, unless};
@@ -188,7 +189,7 @@ impl View {
 
 // Where the visible part of row y stands in a slice of this size, or an empty part.
 fn lookup(width: Width, size: usize, view: View, w: usize, h: usize, y: usize) -> Part
-    ensures { λ r. ⌜ r ≡ row-part width size view w h y ⌝ }
+    ensures { λ r. ⌜ (r ≡ row-part width size view w h y) × (r .from + r .size ≤ size) ⌝ }
 {
     let none = Part { from: 0, size: 0 };
     let SizeCheck::Shift(_) = size_shift(w, h) else {

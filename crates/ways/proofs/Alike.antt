@@ -14,13 +14,11 @@ use Rattle.residual.specs.Blocks.{Way, entered, row, middle, column, residual, 
 
 module _ (𝓦 : Way) (c c′ : List ℤ) (alike : (i : ℕ) → i < 𝓦 .w * 𝓦 .h → at c i ≡ at c′ i) where
   row-alike : (y : ℕ) → y < 𝓦 .h → row 𝓦 c y ≡ row 𝓦 c′ y
-  row-alike y l =
-      ap (𝓦 .row) (tab-ext (𝓦 .w) (entered 𝓦 c y) (entered 𝓦 c′ y)
+  row-alike y l = ap (𝓦 .row) (tab-ext (𝓦 .w) (entered 𝓦 c y) (entered 𝓦 c′ y)
       (λ x g. ap (𝓦 .enter) (alike (y + x * 𝓦 .h) (omega (arith, mul-le-mul-right {m = suc x} {n = 𝓦 .w} (𝓦 .h) g)))))
 
   pub column-alike : (r x : ℕ) → column 𝓦 c r x ≡ column 𝓦 c′ r x
-  column-alike r x =
-      ap (𝓦 .column) (tab-ext (𝓦 .h) (λ y. middle 𝓦 c r y x) (λ y. middle 𝓦 c′ r y x)
+  column-alike r x = ap (𝓦 .column) (tab-ext (𝓦 .h) (λ y. middle 𝓦 c r y x) (λ y. middle 𝓦 c′ r y x)
       (λ y l. ap (λ (s : Passed). cond (ltb y r) (𝓦 .between (at (s .values) x)) (pos 0)) (row-alike y l)))
 
   pub residual-alike : (r y x : ℕ) → residual 𝓦 c r y x ≡ residual 𝓦 c′ r y x

@@ -15,20 +15,33 @@ open-then (accept a) f z e = (a, refl, e)
 open-then (refuse n i) f z e = absurd (refuse≢accept n i z e)
 
 pub open-unless : {A : Type 0} (t : Bool) (n : ℕ) (c : Check A) (a : A) → unless t n c ≡ accept a → (t ≡ false) × (c ≡ accept a)
-open-unless true n c a e = absurd (refuse≢accept n 0 a e)
-open-unless false n c a e = (refl, e)
+open-unless = elim [ true ↦ λ n c a e. absurd (refuse≢accept n 0 a e) | false ↦ λ n c a e. (refl, e) ]
 
 pub open-at : {A : Type 0} (o : Option ℕ) (n : ℕ) (c : Check A) (a : A) → unless-at o n c ≡ accept a → (o ≡ none) × (c ≡ accept a)
-open-at (some i) n c a e = absurd (refuse≢accept n i a e)
-open-at none n c a e = (refl, e)
+open-at = elim [ some i ↦ λ n c a e. absurd (refuse≢accept n i a e) | none ↦ λ n c a e. (refl, e) ]
 
 pub same-accept : {A : Type 0} (a a′ : A) → accept a ≡ accept a′ → a ≡ a′
 same-accept a a′ e = cc
 
 -- and what a refusal tells of its own test
 pub refused-by : {A : Type 0} (t : Bool) (n : ℕ) (a : A) → unless t n (accept a) ≡ refuse n 0 → t ≡ true
-refused-by true n a e = refl
-refused-by false n a e = absurd (refuse≢accept n 0 a (sym e))
+refused-by = elim [ true ↦ λ n a e. refl | false ↦ λ n a e. absurd (refuse≢accept n 0 a (sym e)) ]
+
+-- what holds of the number and the place of a refusal
+abbrev pub Refusing : {A : Type 0} → (ℕ → ℕ → Type 0) → Check A → Type 0
+Refusing P (accept a) = Unit {0}
+Refusing P (refuse n i) = P n i
+
+module _ (P : ℕ → ℕ → Type 0) {A : Type 0} where
+  pub refusing-then : {C : Type 0} (c : Check A) (f : A → Check C) → Refusing P c → ((a : A) → c ≡ accept a → Refusing P (f a))
+      → Refusing P (then c f)
+  refusing-then = elim [ accept a ↦ λ f h g. g a refl | refuse n i ↦ λ f h g. h ]
+
+  pub refusing-unless : (t : Bool) (n : ℕ) (c : Check A) → P n 0 → Refusing P c → Refusing P (unless t n c)
+  refusing-unless = elim [ true ↦ λ n c h g. h | false ↦ λ n c h g. g ]
+
+  pub refusing-at : (o : Option ℕ) (n : ℕ) (c : Check A) → ((i : ℕ) → o ≡ some i → P n i) → (o ≡ none → Refusing P c) → Refusing P (unless-at o n c)
+  refusing-at = elim [ some i ↦ λ n c h g. h i refl | none ↦ λ n c h g. g refl ]
 
 -- where an answer can be read back from what it says, no second answer says the same
 pub one-answer : {A C : Type 0} (says : A → C) (back : C → A) → ((r : A) → back (says r) ≡ r) → {c : C} {r r′ : A} → says r ≡ c → says r′ ≡ c → r ≡ r′
@@ -37,8 +50,7 @@ one-answer says back h {c} {r} {r′} e e′ = sym (h r) ∙ ap back (e ∙ sym 
 -- ---- a table
 
 pub when-none : (t : Bool) → when t ≡ none → t ≡ false
-when-none false e = refl
-when-none true e = let z : _≡_ {A = ℕ} 0 1 = cc in let f : ⊥ = omega arith in absurd f
+when-none = elim [ false ↦ λ e. refl | true ↦ λ e. let z : _≡_ {A = ℕ} 0 1 = cc in absurd (omega arith) ]
 
 -- no line of a table applies
 abbrev pub Clear : {A : Type 0} → List (Line A) → A → Type 0
@@ -87,6 +99,5 @@ module _ {A : Type 0} where
 
   -- what an acceptance tells
   pub taken : (k : Check A) (ls : List (Line A)) (z : A) → then k (judged ls) ≡ accept z → (k ≡ accept z) × Clear ls z
-  taken k ls z e =
-      let f = open-then k (judged ls) z e in let c = clear ls (f .0) z (f .2) in
+  taken k ls z e = let f = open-then k (judged ls) z e in let c = clear ls (f .0) z (f .2) in
       (f .1 ∙ ap accept (c .1), subst (Clear ls) (c .1) (c .0))

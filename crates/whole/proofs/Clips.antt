@@ -41,6 +41,14 @@ pub clip-abs : (v lo hi : ℤ) {n : ℕ} → natAbs lo ≤ n → natAbs hi ≤ n
 unfolding clip
 clip-abs v lo hi b c = sel-abs (ltZ v lo) (ltZ hi v) v lo hi refl refl b c
 
+-- a test goes one way or the other
+pub by-test : (P : Bool → Type 0) (t : Bool) → (t ≡ true → P true) → (t ≡ false → P false) → P t
+by-test P true f g = f refl
+by-test P false f g = g refl
+
+pub either : {A : Type 0} (t : Bool) → (t ≡ true → A) → (t ≡ false → A) → A
+either {A} = by-test (λ _. A)
+
 pub and-true : (s t : Bool) → s && t ≡ true → (s ≡ true) × (t ≡ true)
 and-true true t e = (refl, e)
 and-true false t e = (e, elim t [ true ↦ refl | false ↦ e ])

@@ -1,15 +1,16 @@
 -- Laws of lists and searches over 0, 1, .., n - 1.
 use mathlib.Core.Path.{_≡_, refl, sym, ap, ap₂, _∙_, subst}
 use mathlib.Core.Bool.{Bool, true, false, cond, _||_, or-assoc, or-comm}
-use mathlib.Core.List.{List, [], _∷_, map}
+use mathlib.Core.List.{List, [], _∷_, _++_, map}
 use mathlib.Core.Option.{Option, none, some}
-use Prim.Native.Nat.{ℕ, zero, suc, _≤_, _<_}
+use Prim.Native.Nat.{ℕ, zero, suc, _+_, _-_, _≤_, _<_}
 use native.Mathlib.Omega.{arith}
 use borrow.Author.Tests.{ltb-true, ltb-false}
 use lib.Dec.{ltb}
-use lib.ListN.{getD, length, replicate}
+use lib.ListN.{getD, length, replicate, drop, length-append, length-drop, List·getD-append}
+use lib.Seq.{getD-append-add, getD-drop}
 use Rattle.whole.specs.Lists.{tab, any, first, one-more}
-use Rattle.whole.proofs.Clips.{or-false}
+use Rattle.whole.proofs.Clips.{either, or-false}
 
 -- ---- lists
 
@@ -43,6 +44,19 @@ map-length f (x ∷ xs) = ap suc (map-length f xs)
 pub map-ext : {A C : Type 0} (f g : A → C) → ((x : A) → f x ≡ g x) → (xs : List A) → map f xs ≡ map g xs
 map-ext f g e [] = refl
 map-ext f g e (x ∷ xs) = ap₂ (λ y s. y ∷ s) (e x) (map-ext f g e xs)
+
+-- xs stands before what c has from n on: what is there, beyond it, and how long it is
+module _ {A : Type 0} (xs c : List A) {n : ℕ} (e : length xs ≡ n) where
+  pub before-at : (i : ℕ) (z : A) → i < n → getD (xs ++ drop n c) i z ≡ getD xs i z
+  before-at i z l = List·getD-append xs (drop n c) z i (omega arith)
+
+  pub beyond-at : (i : ℕ) (z : A) → n ≤ i → getD (xs ++ drop n c) i z ≡ getD c i z
+  beyond-at i z l = let p : i ≡ length xs + (i - n) = omega arith in let q : n + (i - n) ≡ i = omega arith in
+      ap (λ (k : ℕ). getD (xs ++ drop n c) k z) p ∙ getD-append-add xs (drop n c) (i - n) z ∙ getD-drop n c (i - n) z
+      ∙ ap (λ (k : ℕ). getD c k z) q
+
+  pub as-long : n ≤ length c → length (xs ++ drop n c) ≡ length c
+  as-long l = length-append xs (drop n c) ∙ omega (arith, length-drop n c)
 
 -- ---- whether some i is found
 
@@ -79,39 +93,33 @@ any-snoc (suc n) f = ap (λ x. f zero || x) (any-snoc n (λ i. f (suc i))) ∙ s
 
 pub first-ext : (n : ℕ) (f g : ℕ → Bool) → ((i : ℕ) → i < n → f i ≡ g i) → first n f ≡ first n g
 first-ext zero f g e = refl
-first-ext (suc n) f g e =
-    ap₂ (λ (b : Bool) (o : Option ℕ). cond b (some zero) (one-more o)) (e zero (omega arith))
+first-ext (suc n) f g e = ap₂ (λ (b : Bool) (o : Option ℕ). cond b (some zero) (one-more o)) (e zero (omega arith))
     (first-ext n (λ i. f (suc i)) (λ i. g (suc i)) (λ i h. e (suc i) (omega arith)))
 
 -- what is nowhere is not found
 pub none-first : (n : ℕ) (f : ℕ → Bool) → ((i : ℕ) → i < n → f i ≡ false) → first n f ≡ none
 none-first zero f e = refl
-none-first (suc n) f e =
-    ap₂ (λ (x : Bool) (y : Option ℕ). cond x (some zero) (one-more y)) (e zero (omega arith))
+none-first (suc n) f e = ap₂ (λ (x : Bool) (y : Option ℕ). cond x (some zero) (one-more y)) (e zero (omega arith))
     (none-first n (λ i. f (suc i)) (λ i h. e (suc i) (omega arith)))
 
 -- nothing more is found from r to n
 pub first-upto : (r n : ℕ) (f : ℕ → Bool) → r ≤ n → ((i : ℕ) → r ≤ i → i < n → f i ≡ false) → first r f ≡ first n f
 first-upto zero n f h e = sym (none-first n f (λ i l. e i (omega arith) l))
 first-upto (suc r) zero f h e = let x : ⊥ = omega arith in absurd x
-first-upto (suc r) (suc n) f h e =
-    ap (λ (o : Option ℕ). cond (f zero) (some zero) (one-more o))
+first-upto (suc r) (suc n) f h e = ap (λ (o : Option ℕ). cond (f zero) (some zero) (one-more o))
     (first-upto r n (λ i. f (suc i)) (omega arith) (λ i k l. e (suc i) (omega arith) (omega arith)))
 
 -- and what was not found is nowhere
 more-none : (o : Option ℕ) → one-more o ≡ none → o ≡ none
-more-none none e = refl
-more-none (some i) e = let z : _≡_ {A = ℕ} 0 1 = cc in let x : ⊥ = omega arith in absurd x
+more-none = elim [ none ↦ λ e. refl | some i ↦ λ e. let z : _≡_ {A = ℕ} 0 1 = cc in absurd (omega arith) ]
 
 cond-none : (b : Bool) (i : ℕ) (o : Option ℕ) → cond b (some i) o ≡ none → (b ≡ false) × (o ≡ none)
-cond-none true i o e = let z : _≡_ {A = ℕ} 0 1 = cc in let x : ⊥ = omega arith in absurd x
-cond-none false i o e = (refl, e)
+cond-none = elim [ true ↦ λ i o e. let z : _≡_ {A = ℕ} 0 1 = cc in absurd (omega arith) | false ↦ λ i o e. (refl, e) ]
 
 pub first-none : (n : ℕ) (f : ℕ → Bool) → first n f ≡ none → (i : ℕ) → i < n → f i ≡ false
 first-none zero f e i h = let x : ⊥ = omega arith in absurd x
 first-none (suc n) f e zero h = cond-none (f zero) zero (one-more (first n (λ i. f (suc i)))) e .0
-first-none (suc n) f e (suc i) h =
-    first-none n (λ i. f (suc i))
+first-none (suc n) f e (suc i) h = first-none n (λ i. f (suc i))
     (more-none (first n (λ i. f (suc i))) (cond-none (f zero) zero (one-more (first n (λ i. f (suc i)))) e .1)) i (omega arith)
 
 -- what holds at i and nowhere before is found at i
@@ -124,8 +132,4 @@ first-found (suc n) f (suc i) h t e =
 
 -- ---- the last, or one before
 pub last-or-less : (i k : ℕ) (P : ℕ → Type 0) → i < suc k → P k → (i < k → P i) → P i
-last-or-less i k P h p f = go (ltb i k) refl
-  where
-    go : (t : Bool) → ltb i k ≡ t → P i
-    go true e = f (ltb-true i k e)
-    go false e = subst P (omega (arith, ltb-false i k e)) p
+last-or-less i k P h p f = either (ltb i k) (λ e. f (ltb-true i k e)) (λ e. subst P (omega (arith, ltb-false i k e)) p)

@@ -1,6 +1,6 @@
 -- A signed number that a local holds is read back as itself: facts of the numbers are facts of what is read.
 use mathlib.Core.Path.{_≡_, refl, sym, ap, _∙_, subst, subst⁻¹}
-use mathlib.Core.Bool.{Bool, true, false}
+use mathlib.Core.Bool.{true}
 use lib.Dec.{T, eqb, eqb→eq}
 use lib.IntN.{ℤ, pos, negsuc}
 use borrow.Author.Tests.{eq-eqb, ne-eqb}
@@ -8,6 +8,7 @@ use mir.Syntax.{w32}
 use mir.Val.{SFits, toZ, ofZ}
 use mir.ValLaws.{toZ-ofZ}
 use Rattle.whole.specs.Numbers.{same}
+use Rattle.whole.proofs.Clips.{by-test}
 
 module _ {x : ℤ} (f : SFits w32 x) where
   pub to1 : (P : ℤ → Type 0) → P x → P (toZ w32 (ofZ w32 x))
@@ -28,14 +29,10 @@ same-is (negsuc a) (pos b) t = absurd t
 same-is (negsuc a) (negsuc b) t = ap negsuc (eqb→eq a b t)
 
 same-self : (x : ℤ) → same x x ≡ true
-same-self (pos a) = eq-eqb a a refl
-same-self (negsuc a) = eq-eqb a a refl
+same-self = elim [ pos a ↦ eq-eqb a a refl | negsuc a ↦ eq-eqb a a refl ]
 
 pub same-bits : (x y : ℤ) → SFits w32 x → SFits w32 y → eqb (ofZ w32 x) (ofZ w32 y) ≡ same x y
-same-bits x y f g = go (same x y) refl
-  where
-    go : (t : Bool) → same x y ≡ t → eqb (ofZ w32 x) (ofZ w32 y) ≡ t
-    go true e = eq-eqb (ofZ w32 x) (ofZ w32 y) (ap (ofZ w32) (same-is x y (subst T (sym e) tt)))
-    go false e = ne-eqb (ofZ w32 x) (ofZ w32 y) (λ h.
-        let q : x ≡ y = sym (toZ-ofZ w32 x f) ∙ ap (toZ w32) h ∙ toZ-ofZ w32 y g in
-        subst T e (subst (λ (z : ℤ). T (same z y)) (sym q) (subst T (sym (same-self y)) tt)))
+same-bits x y f g = by-test (λ t. eqb (ofZ w32 x) (ofZ w32 y) ≡ t) (same x y)
+    (λ e. eq-eqb (ofZ w32 x) (ofZ w32 y) (ap (ofZ w32) (same-is x y (subst T (sym e) tt))))
+    (λ e. ne-eqb (ofZ w32 x) (ofZ w32 y) (λ h. let q : x ≡ y = sym (toZ-ofZ w32 x f) ∙ ap (toZ w32) h ∙ toZ-ofZ w32 y g in
+    subst T e (subst (λ (z : ℤ). T (same z y)) (sym q) (subst T (sym (same-self y)) tt))))

@@ -128,8 +128,7 @@ module _ (ρ : List ℤ) (β : List ℕ) (h : Within ρ β) where
   raw-is (op o a b) w t =
       let q = and-yes (ok β a w) (ok β b w) (and-yes (ltb (size o (bnd β a) (bnd β b)) (2 ^ hbits w)) (ok β a w && ok β b w) t .1) in
       ap₂ (on o) (back a w (q .0) (raw-is a w (q .0))) (back b w (q .1) (raw-is b w (q .1)))
-  raw-is (a ≫ k) w t =
-      let q = and-yes (ltb (suc (bnd β a / 2 ^ k)) (2 ^ hbits w)) (ok β a w) t .1 in
+  raw-is (a ≫ k) w t = let q = and-yes (ltb (suc (bnd β a / 2 ^ k)) (2 ^ hbits w)) (ok β a w) t .1 in
       ap (λ (x : ℤ). shrZ x (2 ^ k)) (back a w q (raw-is a w q))
   raw-is (from w′ a) w t = let q = and-yes (ltb (bnd β a) (2 ^ hbits w)) (ok β a w′) t .1 in back a w′ q (raw-is a w′ q)
 

@@ -1,12 +1,12 @@
 -- Whole numbers as differences of natural numbers, so that `omega` can prove facts of ℤ: `Rep z a b` says that z is a - b.
-use mathlib.Core.Path.{_≡_, refl, sym, ap, ap₂, _∙_, subst}
+use mathlib.Core.Path.{_≡_, refl, ap, subst}
 use mathlib.Core.Bool.{Bool, true, false, not, cond}
 use Prim.Native.Nat.{ℕ, zero, suc, _+_, _*_, _-_, _≤_, _<_}
 use native.Mathlib.Omega.{arith}
 use lib.IntN.{ℤ, pos, negsuc, negℤ, _+ℤ_, _-ℤ_, _*ℤ_, subℕ, natAbs}
 use lib.Signed.{leZ, ltZ}
 use borrow.Author.Tests.{ltb-false, le-ltb}
-use lib.Dec.{T, ltb, leb, ltb→lt, nltb→le, leb→le, le→leb, lt→ltb}
+use lib.Dec.{T, ltb, ltb→lt, nltb→le, leb→le, le→leb}
 
 -- the positive and the negative part
 abbrev pub pp : ℤ → ℕ
@@ -21,8 +21,7 @@ pub record Rep (z : ℤ) (a b : ℕ) : Type 0 where
   pub rep : pp z + b ≡ nn z + a
 
 pub rep-self : (z : ℤ) → Rep z (pp z) (nn z)
-rep-self (pos n) = record { rep = omega arith }
-rep-self (negsuc n) = record { rep = omega arith }
+rep-self = elim [ pos n ↦ record { rep = omega arith } | negsuc n ↦ record { rep = omega arith } ]
 
 pick-rep : (t : Bool) (a b : ℕ) → (T t → a < b) → (T (not t) → b ≤ a) → Rep (cond t (negsuc (b - suc a)) (pos (a - b))) a b
 pick-rep true a b f g = let h : a < b = f tt in record { rep = omega arith }
@@ -54,8 +53,7 @@ mul-parts (negsuc p) (negsuc q) = record { rep = omega arith }
 
 cross : (P N Q M R S a b c d : ℕ) → P + b ≡ N + a → Q + d ≡ M + c → R + (P * M + N * Q) ≡ S + (P * Q + N * M)
     → R + (a * d + b * c) ≡ S + (a * c + b * d)
-cross P N Q M R S a b c d h k r =
-    let h1 : (P + b) * Q ≡ (N + a) * Q = ap (λ (n : ℕ). n * Q) h in
+cross P N Q M R S a b c d h k r = let h1 : (P + b) * Q ≡ (N + a) * Q = ap (λ (n : ℕ). n * Q) h in
     let h2 : (P + b) * M ≡ (N + a) * M = ap (λ (n : ℕ). n * M) h in
     let k1 : a * (Q + d) ≡ a * (M + c) = ap (λ (n : ℕ). a * n) k in
     let k2 : b * (Q + d) ≡ b * (M + c) = ap (λ (n : ℕ). b * n) k in omega arith
@@ -106,5 +104,4 @@ nlt-parts (negsuc p) (pos q) h = let f : ⊥ = omega arith in absurd f
 nlt-parts (negsuc p) (negsuc q) h = le-ltb q p (omega arith)
 
 pub abs-parts : (z : ℤ) → natAbs z ≡ pp z + nn z
-abs-parts (pos n) = omega arith
-abs-parts (negsuc n) = omega arith
+abs-parts = elim [ pos n ↦ omega arith | negsuc n ↦ omega arith ]

@@ -1,6 +1,6 @@
 -- Numbers in a range, rounded shifts by their two bounds, and what scaling by 181 / 256 does to them.
-use mathlib.Core.Path.{_≡_, refl, ap₂, _∙_}
-use mathlib.Core.Bool.{Bool, true, false, _||_}
+use mathlib.Core.Path.{_≡_, ap₂, _∙_}
+use mathlib.Core.Bool.{false, _||_}
 use Prim.Native.Nat.{ℕ, suc, _+_, _*_, _-_, _≤_, _^_}
 use native.Mathlib.Omega.{arith}
 use lib.IntN.{ℤ, pos, negsuc, _+ℤ_, _*ℤ_, natAbs}
@@ -9,7 +9,7 @@ use lib.Signed.{ltZ}
 use Rattle.whole.specs.Numbers.{_>>_, round2, clip, outside, low, high}
 use Rattle.whole.proofs.Parts.{pp, nn, Rep, rep-self, rep-add, rep-mul, rep-eq, parts-nlt, nlt-parts}
 use Rattle.whole.proofs.Floors.{Floor, shr-floor, floor-one}
-use Rattle.whole.proofs.Clips.{or-false, clip-low, clip-high, clip-none}
+use Rattle.whole.proofs.Clips.{either, or-false, clip-low, clip-high, clip-none}
 
 -- lo ≤ v ≤ hi
 pub record Inside (lo hi v : ℤ) : Type 0 where
@@ -45,30 +45,26 @@ round-floor v k = shift-floor (v +ℤ pos (2 ^ k)) (suc k)
 -- v times n, plus a
 pub scaled : (v : ℤ) (n a : ℕ) → Rep (v *ℤ pos n +ℤ pos a) (pp v * n + a) (nn v * n)
 scaled v n a =
-    let r = rep-add (rep-mul (rep-self v) (rep-self (pos n))) (rep-self (pos a)) in record { rep = omega (arith, r .rep) }
+    let r = rep-add (rep-mul (rep-self v) (rep-self (pos n))) (rep-self (pos a)) in record { rep = omega arith }
 
 -- multiplying by 2896 and dividing by 4096 is multiplying by 181 and dividing by 256
 pub by-181 : (v : ℤ) → round2 (v *ℤ pos 2896) 12 ≡ round2 (v *ℤ pos 181) 8
-by-181 v =
-    let f = round-floor (v *ℤ pos 181) 7 in let r = scaled v 181 128 in let s = scaled v 2896 2048 in
+by-181 v = let f = round-floor (v *ℤ pos 181) 7 in let r = scaled v 181 128 in let s = scaled v 2896 2048 in
     floor-one (v *ℤ pos 2896 +ℤ pos 2048) 4096 (round2 (v *ℤ pos 2896) 12) (round2 (v *ℤ pos 181) 8) (round-floor (v *ℤ pos 2896) 11)
-    (record { low = omega (arith, f .low, r .rep, s .rep); high = omega (arith, f .high, r .rep, s .rep) })
+    (record { low = omega arith; high = omega arith })
 
 -- scaling by 181 / 256 stays in the range
 pub scaled-inside : (m : ℕ) (v : ℤ) → outside v (low m) (high m) ≡ false → outside (round2 (v *ℤ pos 181) 8) (low m) (high m) ≡ false
 scaled-inside m v e =
     let w = inside (low m) (high m) v e in let f = round-floor (v *ℤ pos 181) 7 in let r = scaled v 181 128 in
-    not-outside (low m) (high m) (round2 (v *ℤ pos 181) 8)
-    (record { above = omega (arith, f .high, r .rep, w .above); below = omega (arith, f .low, r .rep, w .below) })
+    not-outside (low m) (high m) (round2 (v *ℤ pos 181) 8) (record { above = omega arith; below = omega arith })
 
 -- rounding twice is rounding once: 128 and 8 · 256 make 2176
 pub rounded-twice : (v : ℤ) → round2 (round2 (v *ℤ pos 181) 8) 4 ≡ (v *ℤ pos 181 +ℤ pos 2176) >> 12
-rounded-twice v =
-    let u = round2 (v *ℤ pos 181) 8 in let f = round-floor (v *ℤ pos 181) 7 in let g = round-floor u 3 in
+rounded-twice v = let u = round2 (v *ℤ pos 181) 8 in let f = round-floor (v *ℤ pos 181) 7 in let g = round-floor u 3 in
     let r = scaled v 181 128 in let s = scaled v 181 2176 in let t = rep-add (rep-self u) (rep-self (pos 8)) in
     floor-one (v *ℤ pos 181 +ℤ pos 2176) 4096 (round2 u 4) ((v *ℤ pos 181 +ℤ pos 2176) >> 12)
-    (record { low = omega (arith, f .low, g .low, r .rep, s .rep, t .rep); high = omega (arith, f .high, g .high, r .rep, s .rep, t .rep) })
-    (shift-floor (v *ℤ pos 181 +ℤ pos 2176) 12)
+    (record { low = omega arith; high = omega arith }) (shift-floor (v *ℤ pos 181 +ℤ pos 2176) 12)
 
 -- and it keeps the order
 pub rounded-mono : (v u : ℤ) → pp v + nn u ≤ pp u + nn v
@@ -76,24 +72,16 @@ pub rounded-mono : (v u : ℤ) → pp v + nn u ≤ pp u + nn v
     ((v *ℤ pos 181 +ℤ pos 2176) >> 12)
 rounded-mono v u h =
     let f = shift-floor (v *ℤ pos 181 +ℤ pos 2176) 12 in let g = shift-floor (u *ℤ pos 181 +ℤ pos 2176) 12 in
-    let r = scaled v 181 2176 in let s = scaled u 181 2176 in omega (arith, f .low, g .high, r .rep, s .rep)
+    let r = scaled v 181 2176 in let s = scaled u 181 2176 in omega arith
 
 -- ---- a clip to 0 .. top, at or below 0 and at or above the top
 
 pub clip-floor : (z : ℤ) (top : ℕ) → pp z ≤ nn z → clip z (pos 0) (pos top) ≡ pos 0
-clip-floor z top h = go (ltZ z (pos 0)) refl
-  where
-    go : (t : Bool) → ltZ z (pos 0) ≡ t → clip z (pos 0) (pos top) ≡ pos 0
-    go true e = clip-low z (pos 0) (pos top) e
-    go false e = clip-none z (pos 0) (pos top) e (nlt-parts (pos top) z (omega arith))
-        ∙ rep-eq (rep-self z) (rep-self (pos 0)) (omega (arith, parts-nlt z (pos 0) e))
+clip-floor z top h = either (ltZ z (pos 0)) (λ e. clip-low z (pos 0) (pos top) e)
+    (λ e. clip-none z (pos 0) (pos top) e (nlt-parts (pos top) z (omega arith))
+    ∙ rep-eq (rep-self z) (rep-self (pos 0)) (omega (arith, parts-nlt z (pos 0) e)))
 
 pub clip-top : (z : ℤ) (top : ℕ) → top + nn z ≤ pp z → clip z (pos 0) (pos top) ≡ pos top
-clip-top z top h = go (ltZ (pos top) z) refl
-  where
-    above-zero : ltZ z (pos 0) ≡ false
-    above-zero = nlt-parts z (pos 0) (omega arith)
-
-    go : (t : Bool) → ltZ (pos top) z ≡ t → clip z (pos 0) (pos top) ≡ pos top
-    go true e = clip-high z (pos 0) (pos top) above-zero e
-    go false e = clip-none z (pos 0) (pos top) above-zero e ∙ rep-eq (rep-self z) (rep-self (pos top)) (omega (arith, parts-nlt (pos top) z e))
+clip-top z top h = let above-zero = nlt-parts z (pos 0) (omega arith) in
+    either (ltZ (pos top) z) (λ e. clip-high z (pos 0) (pos top) above-zero e) (λ e. clip-none z (pos 0) (pos top) above-zero e
+    ∙ rep-eq (rep-self z) (rep-self (pos top)) (omega (arith, parts-nlt (pos top) z e)))

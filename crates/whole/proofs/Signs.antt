@@ -30,8 +30,7 @@ negative v f e = go v f (toZ-ofZ w32 v f) e
   where
     go : (v : ℤ) → SFits w32 v → toZ w32 (ofZ w32 v) ≡ v → ltZ (toZ w32 (ofZ w32 v)) (pos 0) ≡ true → Negative v
     go (pos n) f q e = absurd (omega (arith, ltb-true n 0 (ap (λ (z : ℤ). ltZ z (pos 0)) (sym q) ∙ e)))
-    go (negsuc n) f q e =
-        let turn = ap (λ (z : ℤ). negsuc 0 -ℤ z) q ∙ turned-neg n in
+    go (negsuc n) f q e = let turn = ap (λ (z : ℤ). negsuc 0 -ℤ z) q ∙ turned-neg n in
         record {
           less = n;
           is = refl;

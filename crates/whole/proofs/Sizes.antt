@@ -1,25 +1,22 @@
 -- Bounds on a whole number's size, `natAbs z ≤ n`: what sums, differences, products and shifts do to them, and that a bound below 2 ^ 31 is
 -- what an i32 asks.
-use mathlib.Core.Path.{_≡_, refl, sym, ap, ap₂, _∙_, subst}
-use mathlib.Core.Bool.{Bool, true, false, not, cond}
+use mathlib.Core.Path.{_≡_, refl, ap}
+use mathlib.Core.Bool.{Bool, true, false, cond}
 use Prim.Native.Nat.{ℕ, zero, suc, _+_, _*_, _-_, _/_, _^_, _≤_, _<_, suc-le-suc}
-use native.Mathlib.Nat.{div-zero, le-div-iff-mul-le, zero-lt-suc, div-mul-le-self, le-trans, le-refl, mul-le-mul, div-le-self}
-use native.Mathlib.Nat.{lt-of-le-of-lt, div-le-of-le-mul, le-of-eq}
+use native.Mathlib.Nat.{div-zero, le-div-iff-mul-le, zero-lt-suc, div-mul-le-self, le-trans, le-refl}
+use native.Mathlib.Nat.{lt-of-le-of-lt}
 use native.Mathlib.Omega.{arith}
 use lib.IntN.{ℤ, pos, negsuc, negℤ, _+ℤ_, _-ℤ_, _*ℤ_, subℕ, natAbs}
-use lib.Signed.{mag, leZ, ltZ, shrZ}
-use lib.Dec.{T, ltb, leb, ltb→lt, nltb→le}
+use lib.Signed.{mag, shrZ}
+use lib.Dec.{T, ltb, ltb→lt}
 use mir.Syntax.{Width}
 use mir.Val.{SFits, hbits}
 
 pub abs-neg : (z : ℤ) → natAbs (negℤ z) ≡ natAbs z
-abs-neg (pos zero) = refl
-abs-neg (pos (suc n)) = refl
-abs-neg (negsuc n) = refl
+abs-neg = elim [ pos zero ↦ refl | pos (suc n) ↦ refl | negsuc n ↦ refl ]
 
 pub is-zero : (z : ℤ) → natAbs z ≡ 0 → z ≡ pos 0
-is-zero (pos n) e = ap pos e
-is-zero (negsuc n) e = let f : ⊥ = omega arith in absurd f
+is-zero = elim [ pos n ↦ λ e. ap pos e | negsuc n ↦ λ e. absurd (omega arith) ]
 
 pick-abs : (t : Bool) (a b : ℕ) → (T t → a < b) → natAbs (cond t (negsuc (b - suc a)) (pos (a - b))) ≤ a + b
 pick-abs true a b f = let h : a < b = f tt in omega arith
@@ -43,10 +40,6 @@ abs-mul (pos a) (negsuc b) = abs-neg (pos (a * suc b))
 abs-mul (negsuc a) (pos b) = abs-neg (pos (suc a * b))
 abs-mul (negsuc a) (negsuc b) = refl
 
-div-suc : (a m : ℕ) → a / m ≤ suc a / m
-div-suc a zero = omega (arith, div-zero a, div-zero (suc a))
-div-suc a (suc m) = le-div-iff-mul-le (zero-lt-suc m) .1 (omega (arith, div-mul-le-self a (suc m)))
-
 -- a quotient's bound
 pub div-mono : {a b : ℕ} (m : ℕ) → a ≤ b → a / m ≤ b / m
 div-mono {a} {b} zero h = omega (arith, div-zero a, div-zero b)
@@ -55,11 +48,10 @@ div-mono {a} {b} (suc m) h = le-div-iff-mul-le (zero-lt-suc m) .1 (omega (arith,
 -- rounding down by a factor of m: the size falls to its quotient, and one more below zero
 pub abs-shr : (z : ℤ) (m : ℕ) → natAbs (shrZ z m) ≤ suc (natAbs z / m)
 abs-shr (pos a) m = omega arith
-abs-shr (negsuc a) m = suc-le-suc (div-suc a m)
+abs-shr (negsuc a) m = suc-le-suc (div-mono {a = a} {b = suc a} m (omega arith))
 
 pub mag≤abs : (z : ℤ) → mag z ≤ natAbs z
-mag≤abs (pos n) = le-refl n
-mag≤abs (negsuc n) = omega arith
+mag≤abs = elim [ pos n ↦ le-refl n | negsuc n ↦ omega arith ]
 
 pub abs-fits : {w : Width} {z : ℤ} {n : ℕ} → natAbs z ≤ n → T (ltb n (2 ^ hbits w)) → SFits w z
 abs-fits {w} {z} {n} h t = record { sfits = lt-of-le-of-lt (le-trans (mag≤abs z) h) (ltb→lt n (2 ^ hbits w) t) }

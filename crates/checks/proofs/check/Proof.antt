@@ -27,8 +27,7 @@ module _ (F : Verdict → Type 0) (stops : (x : Refusal) → F (Stop x)) where
   still-2 t f = handed-on F (t .before .check-range .result) (t .check-stray .result) stops (t .check-stray .ensures .1) (still (t .before) f)
 
 returns : tie.Need-returns
-returns c =
-    let t = c .before in let r = t .before in let o = r .before in let a = o .before .before .args in
+returns c = let t = c .before in let r = t .before in let o = r .before in let a = o .before .before .args in
     let v = spot Wide (a .view) in let call = call-of (a .hint) in
     let known : Check (Plan × Depth) = then (plan (a .w) (a .h) (a .txtp)) (with-depth (a .depth)) in
     let front = lengths-lines call (length (a .coeff .now)) Wide (length (a .dst .now)) (a .view) in
@@ -42,10 +41,8 @@ returns c =
     )
 
 pub check-spec : {M : Type 1} → statement M
-check-spec =
-    tie.close (tie.spec (λ c κs. search needs) (λ c κs. c .check-lengths .ensures .3)
+check-spec = tie.close (tie.spec (λ c κs. search needs) (λ c κs. c .check-lengths .ensures .3)
     (λ c κs. (
       still (Enough _) (λ x. tt) c (c .before .check-lengths .ensures .3),
       still (RowsIn (call-of (c .before .before .before .args .hint))) (λ x. tt) c (c .before .check-lengths .ensures .4),
-    )) (λ c κs. still-2 (Looks _) (λ x. tt) c (c .before .before .check-lengths .ensures .2))
-    returns)
+    )) (λ c κs. still-2 (Looks _) (λ x. tt) c (c .before .before .check-lengths .ensures .2)) returns)

@@ -11,20 +11,14 @@ use Rattle.checks.proofs.Opening.{decides, stopped}
 use Rattle.checks.proofs.check_count.Statement.{statement}
 use Rattle.checks.proofs.check_count.Tie as tie
 
-mul-if1 : tie.Need-mul-if1
-mul-if1 c =
-    let b = c .before in let s = b .before .before in let k = subst Asked (b .before2 .given .1) (s .pre) in
-    omega (arith, mul-le-mul (k .0) (k .1))
-
 pub check-count-spec : {M : Type 1} → statement M
-check-count-spec =
-    tie.close (tie.spec (λ c. search needs)
+check-count-spec = tie.close (tie.spec (λ c. search needs)
     (λ c. let s = c .before in stopped (s .args .before) _ Asked (λ r. tt) (c .match .keys2) (s .pre))
-    mul-if1 (λ c.
+    (λ c. let b = c .before in let s = b .before .before in let k = subst Asked (b .before2 .given .1) (s .pre) in
+    omega (arith, mul-le-mul (k .0) (k .1))) (λ c.
     let s = c .before .before .before .before in (
       decides (s .args .before) (count-line (s .args .count)) (ap verdict-of (c .before .before .before2 .given .1))
           (ap when (sym (lt-ltb _ _ (c .if1 .taken)))),
       tt,
-    )) (λ c.
-    let s = c .before .before .before .before in let e = c .before .before .before2 .given .1 in
+    )) (λ c. let s = c .before .before .before .before in let e = c .before .before .before2 .given .1 in
     (decides (s .args .before) (count-line (s .args .count)) (ap verdict-of e) (ap when (sym (le-ltb _ _ (c .if1 .left)))), subst Asked e (s .pre))))

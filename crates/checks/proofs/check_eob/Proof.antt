@@ -9,8 +9,7 @@ use Rattle.checks.proofs.check_eob.Statement.{statement}
 use Rattle.checks.proofs.check_eob.Tie as tie
 
 pub check-eob-spec : {M : Type 1} → statement M
-check-eob-spec =
-    tie.close (tie.spec (λ c. search needs)
+check-eob-spec = tie.close (tie.spec (λ c. search needs)
     (λ c. let s = c .before in stopped (s .args .before) _ Asked (λ r. tt) (c .match .keys2) (s .pre)) (λ c.
     let s = c .before .before .before in (
       decides (s .args .before) (eob-line (plain (s .args .eob))) (ap verdict-of (c .before .enum-told .given .1))

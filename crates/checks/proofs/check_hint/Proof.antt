@@ -20,8 +20,7 @@ abbrev next : tie.Start → Hint → Check (Plan × Depth)
 next s a = then (verdict-of (s .args .before)) (judged (eob-line (call-of a) ∷ rows-line (call-of a) ∷ []))
 
 pub check-hint-spec : {M : Type 1} → statement M
-check-hint-spec =
-    tie.close (tie.spec (λ c. search needs) (λ c κs. c .before .before .before .pre) (λ c. search needs)
+check-hint-spec = tie.close (tie.spec (λ c. search needs) (λ c κs. c .before .before .before .pre) (λ c. search needs)
     (λ c κs. c .before .before .before .pre)
     (λ c. let k = c .before .before in (
       c .check-eob .ensures .0 ∙ ap (λ (z : ℤ). next (k .before .before) (Eob z))

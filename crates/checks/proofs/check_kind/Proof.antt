@@ -17,8 +17,7 @@ with-plan o k e = let s = o .before in ap (λ (c : Check Plan). then c (with-dep
 
 -- a plan's sides
 check-depth-requires : tie.Need-check-depth-requires
-check-depth-requires c κs =
-    let k = c .before in let s = k .before .before .before in
+check-depth-requires c κs = let k = c .before in let s = k .before .before .before in
     let a = plan-sided (s .args .w) (s .args .h) (s .args .txtp) _ (sym (k .before .before .of .ensures) ∙ ap decision-of (k .decision .given .1)) in
     (side-bounds _ (a .0) .1, side-bounds _ (a .1) .1)
 

@@ -21,8 +21,7 @@ abbrev own : tie.Start → List (Line (Plan × Depth))
 own s = eob-line (call-of (s .args .hint)) ∷ rows-line (call-of (s .args .hint)) ∷ []
 
 returns : tie.Need-returns
-returns c =
-    let k = c .before .before .before in let a = k .before .args in let call = call-of (a .hint) in
+returns c = let k = c .before .before .before in let a = k .before .args in let call = call-of (a .hint) in
     let counted = count-line (a .count) in let lying = plane-lines (a .width) (a .size) (a .view) in
     let first = c .before .before .check-hint .ensures .0 ∙ ap (λ v. then v (judged (own (k .before)))) (k .check-kind .ensures .0) in
     let all = further (eob-line call ∷ rows-line call ∷ counted ∷ []) lying (known (k .before))

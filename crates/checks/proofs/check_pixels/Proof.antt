@@ -40,19 +40,16 @@ module _ (o : tie.After-known-told) where
   decided : {k : Option ℕ} → k ≡ first-above (maximum d) (begun .args .dst .now) s (p .w)
       → (v : Spot) → Lies v (begun .args .before)
       → unless-at k 21 (accept (p, d)) ≡ then (verdict-of (begun .args .before)) (judged (pixel-line (begun .args .dst .now) v ∷ []))
-  decided q v l =
-      decides (begun .args .before) (pixel-line (begun .args .dst .now) v) (ap verdict-of is-at)
+  decided q v l = decides (begun .args .before) (pixel-line (begun .args .dst .now) v) (ap verdict-of is-at)
       (q ∙ ap (λ (t : Spot). first-above (maximum d) (begun .args .dst .now) t (p .w)) (subst (Lies v) is-at l))
 
 told : (o : tie.After-first-above) {k : Found} → o .first-above .result ≡ k → let a = o .before .before in
     found k ≡ first-above (maximum (d a)) (begun a .args .dst .now) (s a) (p a .w)
-told o e =
-    let a = o .before .before in ap found (sym e) ∙ o .first-above .ensures
+told o e = let a = o .before .before in ap found (sym e) ∙ o .first-above .ensures
     ∙ ap (λ (top : ℕ). first-above top (begun a .args .dst .now) (s a) (p a .w)) (o .before .maximum .ensures)
 
 pub check-pixels-spec : {M : Type 1} → statement M
-check-pixels-spec =
-    tie.close (tie.spec (λ c. search needs) (λ c.
+check-pixels-spec = tie.close (tie.spec (λ c. search needs) (λ c.
     let b = c .before .before in (
       (λ v l. halted (b .args .before) (judged (pixel-line (b .args .dst .now) v ∷ [])) (Looks _) (λ p d f. f) (c .match .keys2) (b .pre) .0),
       halted (b .args .before) (judged []) (Looks _) (λ p d f. f) (c .match .keys2) (b .pre) .1,

@@ -28,10 +28,7 @@ by-view k size v p d = go (bad-view (p .w) (p .h) v) (bad-stride k (p .w) (v .st
   where
     go : (t u i : Bool) → then {C = Plan × Depth} (unless t 20 (unless u 7 (unless i 8 (accept (spot k v)))))
         (λ s. accept (p, d)) ≡ unless-at (when t) 20 (unless-at (when u) 7 (unless-at (when i) 8 (accept (p, d))))
-    go true u i = refl
-    go false true i = refl
-    go false false true = refl
-    go false false false = refl
+    go = elim [ true ↦ λ u i. refl | false ↦ elim [ true ↦ λ i. refl | false ↦ elim [ true ↦ refl | false ↦ refl ] ] ]
 
 module _ (o : tie.After-spot) where
   abbrev begun : tie.Start
@@ -49,8 +46,7 @@ module _ (o : tie.After-spot) where
   tested : {k : SpotCheck} → o .spot .result ≡ k
       → then {C = Plan × Depth} (spot-check k) (λ s. accept (p, d)) ≡ then (verdict-of (begun .args .before))
       (judged (plane-lines (begun .args .width) (begun .args .size) (begun .args .view)))
-  tested e =
-      ap (λ (k : Check Spot). then {C = Plan × Depth} k (λ s. accept (p, d))) (told e)
+  tested e = ap (λ (k : Check Spot). then {C = Plan × Depth} k (λ s. accept (p, d))) (told e)
       ∙ by-view (begun .args .width) (begun .args .size) (begun .args .view) p d
       ∙ opened (begun .args .before) (judged (plane-lines (begun .args .width) (begun .args .size) (begun .args .view)))
       (ap verdict-of (o .before .before .before2 .given .1))
@@ -64,8 +60,7 @@ module _ (o : tie.After-spot) where
   lies e = placed e .1
 
   looks : {t : Spot} → o .spot .result ≡ Found t → Looking t (p .w) (begun .args .size)
-  looks e =
-      let k = placed e .0 in let a = subst Asked (o .before .before .before2 .given .1) (begun .pre) in
+  looks e = let k = placed e .0 in let a = subst Asked (o .before .before .before2 .given .1) (begun .pre) in
       let v = begun .args .view in subst⁻¹ (λ (s : Spot). Looking s (p .w) (begun .args .size)) (placed e .1)
       (record {
         height = rows-most (p .w) (p .h) v (k .seen) 32 (a .1);

@@ -30,15 +30,13 @@ handed o = (o .before .before2 .given .0 .0, o .before .before2 .given .0 .1 .0)
 -- what the search found, in the ends that the depth has
 told : (o : tie.After-first-outside) {k : Found} → o .first-outside .result ≡ k
     → found k ≡ line (begun (o .before .before .before .before)) .1 (handed (o .before .before .before .before))
-told o {k} e =
-    let a = o .before .before .before .before in let m = row-reach (handed a .1) in
+told o {k} e = let a = o .before .before .before .before in let m = row-reach (handed a .1) in
     let r = o .before .before .before .row-range .ensures in let n = handed a .0 .w * handed a .0 .h in
     let at′ : ℕ → ℤ = λ i. at (begun a .args .coeff .now) i in
     ap found (sym e) ∙ o .first-outside .ensures ∙ (λ j. first n (λ i. outside (at′ i) (lo-is m r j) (hi-is m r j)))
 
 pub check-range-spec : {M : Type 1} → statement M
-check-range-spec =
-    tie.close (tie.spec (λ c. search needs)
+check-range-spec = tie.close (tie.spec (λ c. search needs)
     (λ c. let s = c .before in halted (s .args .before) (judged (line s ∷ [])) (Enough _) (λ p d f. f) (c .match .keys2) (s .pre))
     (λ c κs. search needs)
     (λ c κs. subst (Enough _) (c .before .before .before .before .before2 .given .1) (c .before .before .before .before .before .before .pre))

@@ -26,10 +26,9 @@ module _ (k : tie.After-known-told) where
   enough = subst (Enough _) (k .before .before2 .given .1) (begun .pre)
 
 pub check-range-8bpc-spec : {M : Type 1} → statement M
-check-range-8bpc-spec =
-    tie.close (tie.spec (λ c. search needs)
+check-range-8bpc-spec = tie.close (tie.spec (λ c. search needs)
     (λ c. let s = c .before in halted (s .args .before) (judged (line s ∷ [])) (Enough _) (λ p d f. f) (c .match .keys2) (s .pre))
-    (λ c. omega (arith, enough (c .before), begun (c .before) .good .1 .0 .1)) (λ c κs. enough (c .before)) (λ c.
+    (λ c. omega (arith, enough (c .before))) (λ c κs. enough (c .before)) (λ c.
     let k = c .before .before in let e = k .before .before2 .given .1 in (
       decides (begun k .args .before) (line (begun k)) (ap verdict-of e)
           (range-none (begun k .args .coeff .now) (k .before .before2 .given .0 .0) (k .before .before2 .given .0 .1 .0)

@@ -10,8 +10,7 @@ use Rattle.checks.proofs.check_rows.Statement.{statement}
 use Rattle.checks.proofs.check_rows.Tie as tie
 
 pub check-rows-spec : {M : Type 1} → statement M
-check-rows-spec =
-    tie.close (tie.spec (λ c. search needs)
+check-rows-spec = tie.close (tie.spec (λ c. search needs)
     (λ c. let s = c .before in stopped (s .args .before) _ Asked (λ r. tt) (c .match .keys2) (s .pre)) (λ c.
     let s = c .before .before .before .before in let e = c .before .before .before2 .given .1 in (
       decides (s .args .before) (rows-line (live (s .args .r))) (ap verdict-of e)

@@ -23,9 +23,7 @@ Judged v c call = (verdict-of v ≡ then (verdict-of v) (judged (stray-line call
 
 -- the plain call has no stray
 quiet : (n : ℕ) (v : Verdict) (eob : ℤ) (c : List ℤ) → Enough n v → Judged v c (plain eob)
-quiet n (Go p d) eob c f = absurd f
-quiet n (At p d s) eob c f = (refl, refl)
-quiet n (Stop r) eob c f = (refl, tt)
+quiet n = elim [ Go p d ↦ λ eob c f. absurd f | At p d s ↦ λ eob c f. (refl, refl) | Stop r ↦ λ eob c f. (refl, tt) ]
 
 abbrev line : tie.Start → Line (Plan × Depth)
 line s = stray-line (call-of (s .args .hint)) (s .args .coeff .now)
@@ -40,15 +38,12 @@ module _ (o : tie.After-known-told2) where
 -- what was found is the stray of the call
 stray-is : (o : tie.After-first-stray) {f : Found} → o .first-stray .result ≡ f
     → found f ≡ stray (call-of (begun (o .before) .args .hint)) (o .before .before .before2 .given .0 .0) (begun (o .before) .args .coeff .now)
-stray-is o e =
-    ap found (sym e) ∙ o .first-stray .ensures
+stray-is o e = ap found (sym e) ∙ o .first-stray .ensures
     ∙ ap (λ (a : Hint). stray (call-of a) (o .before .before .before2 .given .0 .0) (begun (o .before) .args .coeff .now))
     (sym (known (o .before) .hint .given .1))
 
 pub check-stray-spec : {M : Type 1} → statement M
-check-stray-spec =
-    tie.close (tie.spec (λ c. search needs) (λ c. search needs) (λ c.
-    let s = c .before .before in
+check-stray-spec = tie.close (tie.spec (λ c. search needs) (λ c. search needs) (λ c. let s = c .before .before in
     subst⁻¹ (λ (a : Hint). Judged (s .args .before) (s .args .coeff .now) (call-of a)) (c .enum-told .given .1)
     (quiet _ (s .args .before) (c .enum-told .given .0 .0) (s .args .coeff .now) (s .pre .0))) (λ c. search needs)
     (λ c. let s = c .before .before .before .before in

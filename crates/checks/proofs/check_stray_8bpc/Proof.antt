@@ -1,6 +1,6 @@
 -- `checks::check_stray_8bpc` meets its contract.
 use mathlib.Core.Path.{_≡_, refl, sym, ap, _∙_, subst, subst⁻¹}
-use mathlib.Core.Bool.{Bool, true, false}
+use mathlib.Core.Bool.{true, true≢false}
 use mathlib.Core.List.{List, [], _∷_}
 use mathlib.Core.Option.{none}
 use Prim.Native.Nat.{ℕ, _*_, _≤_}
@@ -46,18 +46,14 @@ module _ (k : tie.After-known-told) where
   enough : p .w * p .h ≤ length (begun .args .coeff .now)
   enough = subst (Enough _) (k .before .before2 .given .1) (begun .pre .0)
 
-clash : {A : Type 0} {t : Bool} → t ≡ true → t ≡ false → A
-clash e f = let z : _≡_ {A = ℕ} 0 1 = cc in let g : ⊥ = omega arith in absurd g
-
 -- what was hint is short
 shortened : tie.Need-returns-2
-shortened c =
-    let k = c .before .before in let e = k .before .before2 .given .1 in
+shortened c = let k = c .before .before in let e = k .before .before2 .given .1 in
     let is-short = sym (c .before .is-short .ensures) ∙ c .if1 .taken in (
       decides (begun k .args .before) (line (begun k)) (ap verdict-of e)
           (short-quiet (call (begun k)) (p k) (begun k .args .coeff .now) is-short),
       e,
-      λ f. clash is-short f,
+      λ f. absurd (true≢false (sym is-short ∙ f)),
     )
 
 -- the copy was searched
@@ -65,7 +61,7 @@ searched : tie.Need-returns-3
 searched c =
     let w = c .before .before .before in let k = w .before .before .before .before .before in let s = begun k in
     let e = k .before .before2 .given .1 in let t = w .widen .last .0 in let wide : Widened (p k) (s .args .coeff .now) t =
-    record { room = omega (arith, room k, c .before .before .c .given); alike = w .widen .ensures } in
+    record { room = omega (arith, room k); alike = w .widen .ensures } in
     let result = c .check-stray .result in (
       c .check-stray .ensures .0
           ∙ (λ i. unless-at (stray-alike (call s) (p k) t (s .args .coeff .now) (λ j l. sym (wide .alike j l)) i) 10 (accept (p k, d k)))
@@ -75,13 +71,11 @@ searched c =
     )
 
 pub check-stray-8bpc-spec : {M : Type 1} → statement M
-check-stray-8bpc-spec =
-    tie.close (tie.spec (λ c. search needs) (λ c.
-    let s = c .before in
+check-stray-8bpc-spec = tie.close (tie.spec (λ c. search needs) (λ c. let s = c .before in
     let h = halted (s .args .before) (judged (line s ∷ [])) (Enough _) (λ p d f. f) (c .match .keys2) (s .pre .0) in
     (h .0, h .1, elsewhere _ _ (s .args .before) (c .match .keys2) (s .pre .0))) (λ c κs. search needs) shortened
-    (λ c. let k = c .before .before .before .before in omega (arith, enough k, begun k .good .1 .1 .0 .1))
+    (λ c. let k = c .before .before .before .before in omega (arith, enough k))
     (λ c κs. let k = c .before .before .before .before in (enough k, room k)) (λ c κs.
     let k = c .before .before .before .before .before .before .before in let e = k .before .before2 .given .1 in
-    (omega (arith, room k, c .before .c .given), subst (RowsIn (call (begun k))) e (begun k .pre .2)))
+    (omega (arith, room k), subst (RowsIn (call (begun k))) e (begun k .pre .2)))
     (λ c. c .before .before .c .given) searched)

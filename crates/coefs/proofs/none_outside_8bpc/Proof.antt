@@ -19,15 +19,14 @@ abbrev μ-loop : tie.MeasureT-loop
 μ-loop c n i₀ i = n - i
 
 there : (c : tie.In-loop Inv-loop μ-loop) → c .before .loop .i < length (c .before .before .args .c .now)
-there c = omega (arith, c .loop-test .taken, c .before .before .pre)
+there c = omega arith
 
 pub none-outside-8bpc-spec : {M : Type 1} → statement M
 none-outside-8bpc-spec =
     tie.close (tie.spec Inv-loop μ-loop (λ c. (omega arith, λ i l. let f : ⊥ = omega arith in absurd f))
-    (λ c. omega (arith, there c, c .before .before .good .0 .1)) (λ c. there c)
-    (λ c. let k = c .before in omega (arith, k .loop-test .taken, k .before .before .fits .n)) (λ c. omega arith) (λ c.
+    (λ c. omega (arith, there c)) (λ c. there c) (λ c. let k = c .before in omega arith) (λ c. omega arith) (λ c.
     let k = c .before in let l = k .before .loop in let cs = k .before .before .args .c .now in (
-      omega (arith, k .loop-test .taken),
+      omega arith,
       λ j g. last-or-less j (l .i) (λ (i : ℕ). outside (at cs i) (low 32768) (high 32768) ≡ false) (omega arith)
           (short-inside (at cs (l .i)) (record { sfits = c .v .given })) (λ h. l .inv .1 j h),
-    )) (λ c i l. c .before .loop .inv .1 i (omega (arith, c .before .loop .inv .0, c .loop-test .left))))
+    )) (λ c i l. c .before .loop .inv .1 i (omega arith)))

@@ -35,10 +35,10 @@ module _ (c : tie.In-loop Inv-loop μ-loop) where
   i = c .before .loop .k
 
   there : i < length (s .args .c .now)
-  there = omega (arith, c .loop-test .taken, s .pre .0)
+  there = omega arith
 
   here : i < length (c .before .loop .t)
-  here = omega (arith, c .loop-test .taken, s .pre .1, c .before .loop .inv .1)
+  here = omega arith
 
 number : (c : tie.After-v Inv-loop μ-loop) → SFits w16 (at (s (c .before) .args .c .now) (i (c .before)))
 number c = record { sfits = c .v .given }
@@ -46,17 +46,14 @@ number c = record { sfits = c .v .given }
 loop-again : tie.Need-loop-again Inv-loop μ-loop
 loop-again c =
     let k = c .before in let l = k .before .loop in let v = at (s k .args .c .now) (i k) in (
-      omega (arith, k .loop-test .taken),
+      omega arith,
       length-set (l .t) _ _ ∙ l .inv .1,
       alike-more (i k) (s k .args .c .now) (l .t) _ (l .inv .2) (here k) (wide-is v (number c)) _ (omega arith),
     )
 
 pub widen-spec : {M : Type 1} → statement M
-widen-spec =
-    tie.close (tie.spec Inv-loop μ-loop (λ c. (omega arith, refl, λ i l. let f : ⊥ = omega arith in absurd f))
-    (λ c. omega (arith, there c, s c .good .1 .1 .0 .1)) (λ c. there c)
+widen-spec = tie.close (tie.spec Inv-loop μ-loop (λ c. (omega arith, refl, λ i l. let f : ⊥ = omega arith in absurd f))
+    (λ c. omega (arith, there c)) (λ c. there c)
     (λ c. let k = c .before in wide-fits (at (s k .args .c .now) (i k)) (number c))
-    (λ c. omega (arith, here (c .before), s (c .before) .good .0 .1)) (λ c. here (c .before))
-    (λ c. let k = c .before in omega (arith, k .loop-test .taken, s k .fits .n))
-    (λ c. omega arith) loop-again (λ c. c .before .loop .inv .1)
-    (λ c i l. c .before .loop .inv .2 i (omega (arith, c .before .loop .inv .0, c .loop-test .left))))
+    (λ c. omega (arith, here (c .before))) (λ c. here (c .before)) (λ c. let k = c .before in omega arith)
+    (λ c. omega arith) loop-again (λ c. c .before .loop .inv .1) (λ c i l. c .before .loop .inv .2 i (omega arith)))

@@ -14,10 +14,7 @@ use Rattle.itx.proofs.inv_txfm_add_8bpc.Tie as tie
 abbrev given : tie.Start → Block
 given s = block (s .args .w) (s .args .h) (s .args .txtp) 8 (s .args .coeff .now) (lent-8 (s .args .dst .now) (s .args .view))
 
-returns : tie.Need-returns
-returns c =
-    let o = c .before .before .before in let s = o .before .before .before .before in
-    met (ap (λ (z : ℤ). outcome (plain z) (given s)) (toZ-ofZ w32 (s .args .eob) (s .fits .eob))) (o .transform-8bpc .ensures)
-
 pub inv-txfm-add-8bpc-spec : {M : Type 1} → statement M
-inv-txfm-add-8bpc-spec = tie.close (tie.spec (λ c κs. search needs) (λ c. search needs) (λ c. search needs) returns)
+inv-txfm-add-8bpc-spec = tie.close (tie.spec (λ c κs. search needs) (λ c. search needs) (λ c. search needs)
+    (λ c. let o = c .before .before .before in let s = o .before .before .before .before in
+    met (ap (λ (z : ℤ). outcome (plain z) (given s)) (toZ-ofZ w32 (s .args .eob) (s .fits .eob))) (o .transform-8bpc .ensures)))

@@ -27,8 +27,7 @@ returns-2 c =
     (told (e .before) (e .if1 .left)) (o .transform .ensures)
 
 pub spec-inv-txfm-add-spec : {M : Type 1} → statement M
-spec-inv-txfm-add-spec =
-    tie.close (tie.spec (λ c κs. search needs)
+spec-inv-txfm-add-spec = tie.close (tie.spec (λ c κs. search needs)
     (λ c. let s = c .before .before .before in spec-refused (plain (s .args .eob)) (given s) (told (c .before) (c .if1 .taken)))
     (λ c κs. let e = c .before .before in allowed-spec _ (told (e .before) (e .if1 .left)))
     (λ c. search needs) (λ c. search needs) returns-2)

@@ -18,14 +18,10 @@ told : (o : tie.After-has-adst) {t : Bool} → o .has-adst .result ≡ t → let
     adst-planned (plan (s .args .w) (s .args .h) (s .args .txtp)) ≡ t
 told o e = sym (o .has-adst .ensures) ∙ e
 
-returns-2 : tie.Need-returns-2
-returns-2 c =
-    let o = c .before .before .before in let e = o .before .before .before in let s = e .before .before .before in
-    spec-meets (live (s .args .r)) (given s) refl (told (e .before) (e .if1 .left)) (o .transform .ensures)
-
 pub spec-inv-txfm-add-live-spec : {M : Type 1} → statement M
-spec-inv-txfm-add-live-spec =
-    tie.close (tie.spec (λ c κs. search needs)
+spec-inv-txfm-add-live-spec = tie.close (tie.spec (λ c κs. search needs)
     (λ c. let s = c .before .before .before in spec-refused (live (s .args .r)) (given s) (told (c .before) (c .if1 .taken)))
     (λ c κs. let e = c .before .before in allowed-spec _ (told (e .before) (e .if1 .left)))
-    (λ c. search needs) (λ c. search needs) returns-2)
+    (λ c. search needs) (λ c. search needs)
+    (λ c. let o = c .before .before .before in let e = o .before .before .before in let s = e .before .before .before in
+    spec-meets (live (s .args .r)) (given s) refl (told (e .before) (e .if1 .left)) (o .transform .ensures)))

@@ -105,7 +105,7 @@ module _ (k : tie.After-checked2) where
   turned = subst (Lies (place s)) (k .checked2 .given .1) (lies sought)
 
   ready : Ready p (k .checked2 .given .0 .1 .1 .0) (s .args .dst .now) (s .args .coeff .now)
-  ready = Accepted.ready First (call s) (given s) p Eight accepted _ turned
+  ready = Accepted.ready First accepted _ turned
 
   copied : short (call s) p ≡ false → Widened p (s .args .coeff .now) (sought .check-stray-8bpc .last .1 .0)
   copied = subst (Copied (call s) (s .args .coeff .now) (sought .check-stray-8bpc .last .1 .0)) (k .checked2 .given .1)
@@ -118,33 +118,24 @@ way-is o e = sym (o .is-short .ensures) ∙ e
 wide : (e : tie.Else1) → let k = e .before .before .before in Widened (p k) (s k .args .coeff .now) (sought k .check-stray-8bpc .last .1 .0)
 wide e = copied (e .before .before .before) (way-is (e .before) (e .if1 .left))
 
-refusal : tie.Need-returns-2
-refusal c =
-    let t = c .before .before .before .before in first-meets (call (begun t)) (given (begun t)) refl
-    (Accepted.refusal-left First (call (begun t)) (given (begun t)) (c .before .checked .given .0 .0)
-    (checked t ∙ ap verdict-of (c .before .checked .given .1)))
-
 -- the plane's check has found a place or stopped
 never : tie.Need-returns-3
 never c = let t = c .before .before .before in absurd (subst (Lies (place (begun t))) (c .enum-told .given .1) (lies t))
 
 shortened : tie.Need-returns
-shortened c =
-    let o = c .before .before .before .before .before .before in let k = o .before .before .before in
-    first-meets (call (s k)) (given (s k)) refl
-    (Accepted.shortcut-left First (call (s k)) (given (s k)) (p k) Eight (accepted k) _ (turned k)
+shortened c = let o = c .before .before .before .before .before .before in let k = o .before .before .before in
+    first-meets (call (s k)) (given (s k)) refl (Accepted.shortcut-left First (accepted k) _ (turned k)
     (way-is (o .before) (o .if1 .taken)) (c .before .before .before .by-shortcut-8bpc .ensures))
 
 passed : tie.Need-returns-4
 passed c =
     let o = c .before .before .before in let l = o .before .before .before .before in let e = l .before .before in
     let k = e .before .before .before in first-meets (call (s k)) (given (s k)) refl
-    (Accepted.passes-left First (call (s k)) (given (s k)) (p k) Eight (accepted k) _ (turned k) (l .rows-to-pass .result)
+    (Accepted.passes-left First (accepted k) _ (turned k) (l .rows-to-pass .result)
     (way-is (e .before) (e .if1 .left)) (suits-copy (wide e) (call (s k)) _ (l .rows-to-pass .ensures)) (o .by-passes-8bpc .ensures))
 
 pub transform-in-spec : {M : Type 1} → statement M
-transform-in-spec =
-    tie.close (tie.spec (λ c κs. search needs) (λ c κs. c .before .check-lengths .ensures .3) (λ c κs.
+transform-in-spec = tie.close (tie.spec (λ c κs. search needs) (λ c κs. c .before .check-lengths .ensures .3) (λ c κs.
     let r = c .before .before in let l = placed r in let a = start r in (
       still r (Enough _) (λ x. tt) (l .check-lengths .ensures .3),
       still r (Enough _) (λ x. tt)
@@ -154,12 +145,13 @@ transform-in-spec =
     )) (λ c. search needs) (λ c. search needs) (λ c. search needs) (λ c κs. search needs)
     (λ c κs. ready (c .before .before .before .before .before)) (λ c. search needs) (λ c. search needs)
     (λ c. search needs) shortened
-    (λ c κs. let e = c .before in let k = e .before .before .before in (wide e .room, h-positive (given (s k)) (p k) Eight (call (s k)) (accepted k)))
-    (λ c κs.
+    (λ c κs. let e = c .before in let k = e .before .before .before in (wide e .room, h-positive (accepted k))) (λ c κs.
     let l = c .before .before .before in let e = l .before .before in let k = e .before .before .before in (
       ready k,
-      Accepted.suits-inside (call (s k)) (given (s k)) (p k) Eight (accepted k)
-          (suits-copy (wide e) (call (s k)) _ (l .rows-to-pass .ensures)),
+      Accepted.suits-inside (accepted k) (suits-copy (wide e) (call (s k)) _ (l .rows-to-pass .ensures)),
       wide e,
-    )) (λ c. search needs) (λ c. search needs) refusal (λ c. search needs) (λ c. search needs) never (λ c. search needs)
-    (λ c. search needs) (λ c. search needs) passed)
+    )) (λ c. search needs) (λ c. search needs)
+    (λ c. let t = c .before .before .before .before in first-meets (call (begun t)) (given (begun t)) refl
+    (Accepted.refusal-left First (call (begun t)) (given (begun t)) (c .before .checked .given .0 .0)
+    (checked t ∙ ap verdict-of (c .before .checked .given .1))))
+    (λ c. search needs) (λ c. search needs) never (λ c. search needs) (λ c. search needs) (λ c. search needs) passed)

@@ -27,7 +27,7 @@ abbrev μ-loop : tie.MeasureT-loop
 
 long : (h : tie.At-loop Inv-loop μ-loop) → length (h .loop .to) ≡ length (h .before .args .to .now)
 long h = ap length (h .loop .inv .0) ∙ over-length (h .loop .i) (four (h .before .args .from .now)) (h .before .args .to .now)
-    (omega (arith, h .before .pre .1))
+    (omega arith)
 
 -- inside the loop: where the number is taken from, and that it is small
 module _ (c : tie.In-loop Inv-loop μ-loop) where
@@ -53,20 +53,16 @@ loop-again : tie.Need-loop-again Inv-loop μ-loop
 loop-again c =
     let n = c .before in let h = n .before .loop in let from = s n .args .from .now in let to = s n .args .to .now in
     let v = reads (ρ n) (16777216 ∷ []) (small n) (var 0 ⊛ lit (pos 4)) w32 tt ∙ ap (λ (k : ℕ). at from k *ℤ pos 4) (place-is n) in (
-      (λ k. set (h .inv .0 k) (i n) (v k)) ∙ over-more (i n) (four from) to (omega (arith, s n .pre .1, n .loop-test .taken))
+      (λ k. set (h .inv .0 k) (i n) (v k)) ∙ over-more (i n) (four from) to (omega arith)
           ∙ ap (λ (k : ℕ). over k (four from) to) (sym (add-one (i n))),
-      omega (arith, n .loop-test .taken),
+      omega arith,
     )
 
-returns : tie.Need-returns Inv-loop μ-loop
-returns c =
-    let h = c .before in let s = h .before in let all : h .loop .i ≡ 16 = omega arith in
-    h .loop .inv .0 ∙ ap (λ (k : ℕ). over k (four (s .args .from .now)) (s .args .to .now)) all
-
 pub cross-spec : {M : Type 1} → statement M
-cross-spec =
-    tie.close (tie.spec Inv-loop μ-loop (λ c. (refl, omega arith)) (λ c. omega arith) (λ c. omega arith)
-    (λ c. omega (arith, place-in c)) (λ c. omega (arith, place-in c, s c .pre .0 .enough))
+cross-spec = tie.close (tie.spec Inv-loop μ-loop (λ c. (refl, omega arith)) (λ c. omega arith) (λ c. omega arith)
+    (λ c. omega (arith, place-in c)) (λ c. omega (arith, place-in c))
     (λ c. need (ρ (c .before)) (16777216 ∷ []) (small (c .before)) (var 0 ⊛ lit (pos 4)) w32 tt) (λ c. omega arith)
-    (λ c. omega (arith, c .before .loop-test .taken, long (c .before .before), s (c .before) .pre .1))
-    (λ c. omega arith) (λ c. omega arith) loop-again (λ c. long (c .before)) returns)
+    (λ c. omega (arith, long (c .before .before)))
+    (λ c. omega arith) (λ c. omega arith) loop-again (λ c. long (c .before))
+    (λ c. let h = c .before in let s = h .before in let all : h .loop .i ≡ 16 = omega arith in
+    h .loop .inv .0 ∙ ap (λ (k : ℕ). over k (four (s .args .from .now)) (s .args .to .now)) all))

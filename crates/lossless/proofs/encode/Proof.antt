@@ -21,8 +21,7 @@ use Rattle.lossless.proofs.encode.Statement.{statement}
 use Rattle.lossless.proofs.encode.Tie as tie
 
 resolve-wht-requires : tie.Need-resolve-wht-requires
-resolve-wht-requires c κs =
-    let a = c .before .before .before in let s = a .before .before in
+resolve-wht-requires c κs = let a = c .before .before .before in let s = a .before .before in
     let x = subst⁻¹ (Sixteen 524288) (a .cross .ensures) (crossed-sixteen (s .args .residual .now) (lit≤ tt) (s .pre .0)) in
     record {
       sized = sized 4 4 16 (wht-plan 0) refl;
@@ -43,21 +42,16 @@ module _ (c : tie.After-resolve-wht) where
 
   small : Sixteen 16777216 (c .resolve-wht .last .0)
   small = record {
-    enough = omega (arith, resolved .long);
-    small = λ i l.
-        let z : i / 4 * 4 + i % 4 ≡ i = omega arith in
+    enough = omega arith;
+    small = λ i l. let z : i / 4 * 4 + i % 4 ≡ i = omega arith in
         subst (λ (k : ℕ). natAbs (at (c .resolve-wht .last .0) k) ≤ 16777216) z (resolved .small (i / 4) (i % 4) (omega arith) (omega arith));
   }
 
-returns : tie.Need-returns
-returns c =
-    let e = c .before in let a = e .before .before .before .before in
-    e .cross2 .ensures ∙ ap (λ (v : List ℤ). v ++ drop 16 (s a .args .coeff .now))
-    (crossed-back Eight (s a .args .residual .now) (a .resolve-wht .last .0) (resolved a))
-
 pub encode-spec : {M : Type 1} → statement M
-encode-spec =
-    tie.close (tie.spec (λ c. search needs)
+encode-spec = tie.close (tie.spec (λ c. search needs)
     (λ c κs. (record { enough = c .before .pre .0 .enough; small = λ i l. le-trans (c .before .pre .0 .small i l) (lit≤ tt) }, lit≤ tt))
     (λ c. search needs) (λ c. search needs) resolve-wht-requires (λ c. search needs)
-    (λ c κs. let a = c .before .before .before in (small a, s a .pre .1)) (λ c. search needs) returns)
+    (λ c κs. let a = c .before .before .before in (small a, s a .pre .1)) (λ c. search needs)
+    (λ c. let e = c .before in let a = e .before .before .before .before in
+    e .cross2 .ensures ∙ ap (λ (v : List ℤ). v ++ drop 16 (s a .args .coeff .now))
+    (crossed-back Eight (s a .args .residual .now) (a .resolve-wht .last .0) (resolved a))))

@@ -123,29 +123,17 @@ module _ (o : tie.After-first-outside) where
         ltb-false (length (c begin)) 16 (b .1),
       )
 
-returns : tie.Need-returns
-returns k = let s = k .before .before .before in
-    meets s _ _ (refuse 3 0) (known s (sym (k .before .before .of .ensures) ∙ ap check-of (k .enum-told .given .1))) refl refl
-
-returns-2 : tie.Need-returns-2
-returns-2 k =
-    let s = k .before .before .before .before .before in
-    let e = sym (k .before .before .before .before .of .ensures) ∙ ap check-of (k .before .before .checked .given .1) in
-    meets s _ _ (refuse 6 0) (by-tests s _ true _ e (k .if1 .taken) refl) refl refl
-
-returns-3 : tie.Need-returns-3
-returns-3 k = let o = k .before .before .before in meets (begin o) _ _ _ (judged o (k .before .found .given .1)) refl refl
-
-returns-4 : tie.Need-returns-4
-returns-4 k =
-    let g = k .before .before .before in let o = g .before .before in
-    meets (begin o) _ _ _ (judged o (g .enum-told2 .given .1)) refl (k .before .encode .ensures)
-
 pub fwd-wht4x4-spec : {M : Type 1} → statement M
-fwd-wht4x4-spec =
-    tie.close (tie.spec (λ k κs. search needs) (λ k. search needs) (λ k. search needs) returns returns-2
+fwd-wht4x4-spec = tie.close (tie.spec (λ k κs. search needs) (λ k. search needs) (λ k. search needs)
+    (λ k. let s = k .before .before .before in
+    meets s _ _ (refuse 3 0) (known s (sym (k .before .before .of .ensures) ∙ ap check-of (k .enum-told .given .1))) refl refl)
+    (λ k. let s = k .before .before .before .before .before in
+    let e = sym (k .before .before .before .before .of .ensures) ∙ ap check-of (k .before .before .checked .given .1) in
+    meets s _ _ (refuse 6 0) (by-tests s _ true _ e (k .if1 .taken) refl) refl refl)
     (λ k κs. search needs) (λ k. search needs)
     (λ k. subst⁻¹ (λ (n : ℕ). SFits w32 (pos 0 -ℤ toZ w32 n)) (k .maximum .ensures) (ends (deep k) .fits))
     (λ k κs. ltb-false (length (r (start k))) 16 (or-false _ _ (enough k) .0)) (λ k. search needs) (λ k. search needs)
     (λ k κs. inside (k .before .before .before) (k .before .enum-told2 .given .1) refl)
-    returns-3 (λ k. search needs) returns-4)
+    (λ k. let o = k .before .before .before in meets (begin o) _ _ _ (judged o (k .before .found .given .1)) refl refl)
+    (λ k. search needs) (λ k. let g = k .before .before .before in let o = g .before .before in
+    meets (begin o) _ _ _ (judged o (g .enum-told2 .given .1)) refl (k .before .encode .ensures)))

@@ -20,11 +20,10 @@ module _ (s : tie.Start) where
   numbers = pos (s .args .p) ∷ s .args .v ∷ []
 
   bounded : Within numbers bounds
-  bounded = (omega (arith, s .fits .p .fits), (s .pre, tt))
+  bounded = (omega arith, (s .pre, tt))
 
 pub add-pixel-spec : {M : Type 1} → statement M
-add-pixel-spec =
-    tie.close (tie.spec
+add-pixel-spec = tie.close (tie.spec
     (λ c. search needs) (λ c. need (numbers c) bounds (bounded c) (var 0 ⊕ var 1) w32 tt) (λ c κs. search needs) (λ c.
     let s = c .before in
     c .pixel .ensures ∙ ap (λ (z : ℤ). natAbs (clip z (pos 0) (pos (s .args .top)))) (reads (numbers s) bounds (bounded s) (var 0 ⊕ var 1) w32 tt)))

@@ -18,12 +18,9 @@ loop-again : tie.Need-loop-again Inv-loop μ-loop
 loop-again c =
     let l = c .before .before .before .loop in let s = c .before .before .before .before .before in let k = c .joint .ensures in
     let p : ℕ → ℕ = λ x. getD (s .args .ps .now) (s .args .from + x) 0 in
-    ((λ j m. last-or-less j (l .x) (λ (i : ℕ). p i ≤ c .joint .result) (omega arith) (k .1) (λ g. omega (arith, l .inv .0 j g, k .0))), omega arith)
+    ((λ j m. last-or-less j (l .x) (λ (i : ℕ). p i ≤ c .joint .result) (omega arith) (k .1) (λ g. omega (arith, l .inv .0 j g))), omega arith)
 
 pub bound-spec : {M : Type 1} → statement M
-bound-spec =
-    tie.close (tie.spec
-    Inv-loop μ-loop (λ c. ((λ j m. let f : ⊥ = omega arith in absurd f), omega arith))
-    (λ c. omega (arith, c .before .before .before .pre)) (λ c. omega (arith, c .before .before .before .pre))
-    (λ c. omega (arith, c .before .before .before .before .pre)) (λ c κs. search needs) (λ c. omega arith)
-    (λ c. omega arith) loop-again (λ c j m. c .before .loop .inv .0 j (omega (arith, m, c .loop-test .left))))
+bound-spec = tie.close (tie.spec Inv-loop μ-loop (λ c. ((λ j m. let f : ⊥ = omega arith in absurd f), omega arith))
+    (λ c. omega arith) (λ c. omega arith) (λ c. omega arith) (λ c κs. search needs) (λ c. omega arith)
+    (λ c. omega arith) loop-again (λ c j m. c .before .loop .inv .0 j (omega arith)))

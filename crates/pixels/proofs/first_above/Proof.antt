@@ -11,4 +11,4 @@ first-above-spec =
     tie.close (tie.spec (λ c κs. search needs) (λ c κs. search needs) (λ c. c .search-above .ensures) (λ c.
     let s = c .before .before .before in sym
     (no-above (s .args .top) (s .args .ps .now) (s .args .spot) (s .args .w) (s .pre .columns-in)
-    (λ y x l m. omega (arith, c .before .visible-bound .ensures y l x m, c .if1 .left)))))
+    (λ y x l m. omega (arith, c .before .visible-bound .ensures y l x m)))))

@@ -31,15 +31,11 @@ module _ (s : tie.Start) where
       from-0 clipped (s .args .top) (clip-kept (s .args .v) (pos 0) (pos (s .args .top)) (pos 0) zero)
 
 held : (c : tie.After-iclip) → toZ w32 (ofZ w32 (c .iclip .result)) ≡ clipped (c .before)
-held c =
-    let s = c .before in let v = toZ-ofZ w32 (s .args .v) (s .fits .v) in
-    let top = toZ-pos w32 (s .args .top) (omega (arith, s .fits .top .fits)) in
+held c = let s = c .before in let v = toZ-ofZ w32 (s .args .v) (s .fits .v) in
+    let top = toZ-pos w32 (s .args .top) (omega arith) in
     toZ-ofZ w32 (c .iclip .result) (record { sfits = c .iclip .ok }) ∙ c .iclip .ensures ∙ (λ i. clip (v i) (pos 0) (top i))
 
-cast-result : tie.Need-cast-result
-cast-result c =
-    let q = in-range (c .before) in
-    subst⁻¹ (λ (z : ℤ). T (nonNeg z) × Fits w16 (natAbs z)) (held c) (q .0, record { fits = omega (arith, q .1, c .before .fits .top .fits) })
-
 pub pixel-spec : {M : Type 1} → statement M
-pixel-spec = tie.close (tie.spec (λ c. search needs) (λ c κs. search needs) cast-result (λ c. ap natAbs (held c)))
+pixel-spec = tie.close (tie.spec (λ c. search needs) (λ c κs. search needs) (λ c. let q = in-range (c .before) in
+    subst⁻¹ (λ (z : ℤ). T (nonNeg z) × Fits w16 (natAbs z)) (held c) (q .0, record { fits = omega arith }))
+    (λ c. ap natAbs (held c)))

@@ -23,8 +23,7 @@ s c = c .before .before .before .before
 
 row : (c : tie.After-start Inv-loop μ-loop)
     → let i = c .before in let a = s i .args in Row (a .spot) (length (a .ps .now)) (i .before .loop .y) (c .start .result)
-row c =
-    let i = c .before in
+row c = let i = c .before in
     found-row _ _ _ (s i .pre .height) (s i .pre .inside) (i .loop-test .taken) (record { sfits = c .start .ok }) (c .start .ensures)
 
 loop-again : tie.Need-loop-again Inv-loop μ-loop
@@ -34,15 +33,13 @@ loop-again c =
     subst (λ (n : ℕ). LowRow (m .bound .result) (a .ps .now) n (a .spot .columns)) (place (row f)) (m .bound .ensures) in (
       (λ j g.
           last-or-less j (l .y) (λ (j : ℕ). LowRow (c .joint .result) (a .ps .now) (begins (a .spot) j) (a .spot .columns)) (omega arith)
-          (λ x n. omega (arith, low x n, k .1)) (λ e x n. omega (arith, l .inv .0 j e x n, k .0))),
-      omega (arith, i .loop-test .taken),
+          (λ x n. omega (arith, low x n)) (λ e x n. omega (arith, l .inv .0 j e x n))),
+      omega arith,
     )
 
 pub rows-bound-spec : {M : Type 1} → statement M
-rows-bound-spec =
-    tie.close (tie.spec
-    Inv-loop μ-loop (λ c. ((λ j g. let f : ⊥ = omega arith in absurd f), omega arith))
-    (λ c. omega (arith, c .loop-test .taken, s c .pre .height)) (λ c κs. search needs)
+rows-bound-spec = tie.close (tie.spec Inv-loop μ-loop (λ c. ((λ j g. let f : ⊥ = omega arith in absurd f), omega arith))
+    (λ c. omega arith) (λ c κs. search needs)
     (λ c. counted (row c) (s (c .before) .good .0 .0)) (λ c κs. in-slice (row c) refl) (λ c κs. search needs)
     (λ c. omega (arith, row (c .before .before) .low)) (λ c. omega arith) loop-again
-    (λ c j g. c .before .loop .inv .0 j (omega (arith, g, c .loop-test .left))))
+    (λ c j g. c .before .loop .inv .0 j (omega arith)))

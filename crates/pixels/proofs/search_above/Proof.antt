@@ -52,8 +52,7 @@ module _ (c : tie.In-rows Inv-loop μ-loop Inv-rows μ-rows) where
   y = c .before .rows .y
 
 row : (c : tie.After-start Inv-loop μ-loop Inv-rows μ-rows) → let i = c .before in Row (here i) (length (s i .args .ps .now)) (y i) (c .start .result)
-row c =
-    let i = c .before in
+row c = let i = c .before in
     found-row _ _ _ (s i .pre .height) (s i .pre .inside) (i .rows-test .taken) (record { sfits = c .start .ok }) (c .start .ensures)
 
 -- at a pixel
@@ -71,10 +70,10 @@ module _ (c : tie.In-loop Inv-loop μ-loop Inv-rows μ-rows) where
   from = natAbs (read w64 (f .start .result))
 
   there : from + x < length (s i .args .ps .now)
-  there = omega (arith, in-slice (row f) refl, c .loop-test .taken)
+  there = omega (arith, in-slice (row f) refl)
 
   in-all : y i * s i .args .w + x < here i .rows * s i .args .w
-  in-all = in-buffer (here i .rows) (s i .args .w) (y i) x (i .rows-test .taken) (omega (arith, c .loop-test .taken, s i .pre .columns-in))
+  in-all = in-buffer (here i .rows) (s i .args .w) (y i) x (i .rows-test .taken) (omega arith)
 
   tested : above (s i .args .top) (s i .args .ps .now) (here i) (s i .args .w) (y i * s i .args .w + x)
       ≡ ltb (s i .args .top) (getD (s i .args .ps .now) (from + x) 0)
@@ -84,44 +83,34 @@ module _ (c : tie.In-loop Inv-loop μ-loop Inv-rows μ-rows) where
 loop-again : tie.Need-loop-again Inv-loop μ-loop Inv-rows μ-rows
 loop-again c =
     let k = c .before .before in let l = k .before .loop in (
-      omega (arith, k .loop-test .taken),
+      omega arith,
       l .inv .1,
       clean-more _ (y (i k) * s (i k) .args .w + l .x) _ (l .inv .2) (tested k ∙ le-ltb _ _ (c .if1 .left)) (omega arith),
     )
 
 rows-again : tie.Need-rows-again Inv-loop μ-loop Inv-rows μ-rows
-rows-again c =
-    let l = c .before .loop in let r = c .before .before .before in
-    let q : l .x ≡ here r .columns = omega (arith, l .inv .0, c .loop-test .left) in (
-      omega (arith, r .rows-test .taken),
+rows-again c = let l = c .before .loop in let r = c .before .before .before in
+    let q : l .x ≡ here r .columns = omega arith in (
+      omega arith,
       l .inv .1,
-      clean-past (s r .args .top) (s r .args .ps .now) (here r) (s r .args .w) (s r .pre .columns-in) (y r) _ (λ j m. l .inv .2 j (omega (arith, q)))
+      clean-past (s r .args .top) (s r .args .ps .now) (here r) (s r .args .w) (s r .pre .columns-in) (y r) _ (λ j m. l .inv .2 j (omega arith))
           (omega arith),
     )
 
-returns : tie.Need-returns Inv-loop μ-loop Inv-rows μ-rows
-returns c =
-    let b = c .before .before .before .before in let l = c .before .rows .inv in
-    let q : c .before .rows .y ≡ b .args .spot .rows = omega (arith, l .0, c .rows-test .left) in
-    ap found (l .1) ∙ sym (none-first (b .args .spot .rows * b .args .w) _ (λ j k. l .2 j (omega (arith, ap (λ (m : ℕ). m * b .args .w) q))))
-
-returns-2 : tie.Need-returns-2 Inv-loop μ-loop Inv-rows μ-rows
-returns-2 c =
-    let k = c .before .before in let is = tested k ∙ lt-ltb _ _ (c .if1 .taken) in
-    sym (first-found (here (i k) .rows * s (i k) .args .w) _ (y (i k) * s (i k) .args .w + x k) (in-all k) is (k .before .loop .inv .2))
-
 pub search-above-spec : {M : Type 1} → statement M
-search-above-spec =
-    tie.close (tie.spec
+search-above-spec = tie.close (tie.spec
     Inv-loop μ-loop Inv-rows μ-rows (λ c. (omega arith, refl, λ j l. let f : ⊥ = omega arith in absurd f))
-    (λ c. omega (arith, c .rows-test .taken, s c .pre .height)) (λ c κs. search needs)
-    (λ c. counted (row c) (s (c .before) .good .0 .0))
+    (λ c. omega arith) (λ c κs. search needs) (λ c. counted (row c) (s (c .before) .good .0 .0))
     (λ c. (omega arith, c .before .before .rows .inv .1, λ j l. c .before .before .rows .inv .2 j (omega arith)))
     (λ c. omega (arith, there c, s (i c) .good .0 .0)) (λ c. omega (arith, there c, s (i c) .good .0 .1))
     (λ c. there (c .before))
     (λ c. let k = c .before .before in omega (arith, mul-le-mul (row (f k) .low) (s (i k) .pre .width))) (λ c.
     let k = c .before .before in
-    omega (arith, mul-le-mul (row (f k) .low) (s (i k) .pre .width), k .loop-test .taken, s (i k) .pre .columns-in, s (i k) .pre .width))
-    (λ c. let k = c .before .before in omega (arith, k .loop-test .taken, s (i k) .pre .columns-in, s (i k) .pre .width))
+    omega (arith, mul-le-mul (row (f k) .low) (s (i k) .pre .width), s (i k) .pre .columns-in, s (i k) .pre .width))
+    (λ c. let k = c .before .before in omega (arith, s (i k) .pre .columns-in, s (i k) .pre .width))
     (λ c. omega arith) loop-again (λ c. omega (arith, row (c .before .before) .low)) (λ c. omega arith) rows-again
-    returns returns-2)
+    (λ c. let b = c .before .before .before .before in let l = c .before .rows .inv in
+    let q : c .before .rows .y ≡ b .args .spot .rows = omega arith in
+    ap found (l .1) ∙ sym (none-first (b .args .spot .rows * b .args .w) _ (λ j k. l .2 j (omega (arith, ap (λ (m : ℕ). m * b .args .w) q)))))
+    (λ c. let k = c .before .before in let is = tested k ∙ lt-ltb _ _ (c .if1 .taken) in
+    sym (first-found (here (i k) .rows * s (i k) .args .w) _ (y (i k) * s (i k) .args .w + x k) (in-all k) is (k .before .loop .inv .2))))

@@ -3,40 +3,22 @@ use mathlib.Core.Path.{refl, _∙_}
 use Prim.Native.Nat.{_-_}
 use native.Mathlib.Omega.{arith}
 use mir.Syntax.{w32}
-use mir.Val.{toZ, ofZ}
+use mir.Val.{toZ}
 use mir.ValLaws.{toZ-ofZ}
 use Rattle.pixels.specs.Adds.{add-row}
-use Rattle.pixels.proofs.Pixels.{RowTo, row-begun, row-long, row-done}
-use Rattle.pixels.proofs.Walks.{Here, here, onward, held-small}
+use Rattle.pixels.proofs.Pixels.{RowTo, row-begun, row-long, row-done, row-still, row-next}
+use Rattle.pixels.proofs.Walks.{held-small}
 use Rattle.pixels.proofs.shift_pixels.Statement.{statement}
 use Rattle.pixels.proofs.shift_pixels.Tie as tie
 
-abbrev Inv-loop : tie.InvT-loop
-Inv-loop ps₀ from v w top x₀ ps x = RowTo top ps₀ from (λ i. toZ w32 v) w x ps
-
-abbrev μ-loop : tie.MeasureT-loop
-μ-loop ps₀ from v w top x₀ ps x = w - x
-
-abbrev s : tie.In-loop Inv-loop μ-loop → tie.Start Inv-loop μ-loop
-s c = c .before .before .before
-
-pixel : (c : tie.In-loop Inv-loop μ-loop)
-    → let a = s c .args in let l = c .before .loop in Here (a .top) (a .ps .now) (a .from) (λ x. toZ w32 (ofZ w32 (a .v))) (a .w) (l .x) (l .ps)
-pixel c = here (c .before .loop .inv) (c .loop-test .taken) (s c .pre .1)
-
-returns : tie.Need-returns Inv-loop μ-loop
-returns c =
-    let b = c .before .before .before in let v = toZ-ofZ w32 (b .args .v) (b .fits .v) in
-    row-done (c .before .loop .inv) (c .loop-test .left) ∙ (λ k. add-row (b .args .top) (b .args .ps .now) (b .args .from) (λ x. v k) (b .args .w))
-
 pub shift-pixels-spec : {M : Type 1} → statement M
-shift-pixels-spec =
-    tie.close (tie.spec
-    Inv-loop μ-loop (λ c. row-begun _ _ _ _ _) (λ c. omega (arith, pixel c .first, s c .good .0 .0))
-    (λ c. omega (arith, pixel c .first, s c .good .0 .1)) (λ c. pixel (c .before) .still)
-    (λ c κs. let b = s (c .before) in held-small _ (b .fits .v) (b .pre .0))
-    (λ c. let i = c .before .before in omega (arith, pixel i .first, s i .good .0 .0))
-    (λ c. let i = c .before .before in omega (arith, pixel i .first, s i .good .0 .1)) (λ c. pixel (c .before .before) .still)
-    (λ c. let i = c .before .before in omega (arith, i .loop-test .taken, s i .fits .w)) (λ c. omega arith)
-    (λ c. onward (pixel (c .before .before)) refl (c .shift-pixel .ensures)) (λ c. row-long (c .before .loop .inv))
-    returns)
+shift-pixels-spec = tie.close (tie.spec (λ ps₀ from v w top x₀ ps x. RowTo top ps₀ from (λ i. toZ w32 v) w x ps) (λ ps₀ from v w top x₀ ps x. w - x)
+    (λ c. row-begun (c .before .pre .1)) (λ c. omega arith) (λ c. omega arith)
+    (λ c. row-still (c .before .before .loop .inv) (c .before .loop-test .taken))
+    (λ c κs. let b = c .before .before .before .before in held-small _ (b .fits .v) (b .pre .0)) (λ c. omega arith)
+    (λ c. omega arith) (λ c. row-still (c .before .before .before .loop .inv) (c .before .before .loop-test .taken))
+    (λ c. omega arith) (λ c. omega arith)
+    (λ c. let i = c .before .before in row-next (i .before .loop .inv) (i .loop-test .taken) refl (c .shift-pixel .ensures))
+    (λ c. row-long (c .before .loop .inv))
+    (λ c. let b = c .before .before .before in let v = toZ-ofZ w32 (b .args .v) (b .fits .v) in row-done (c .before .loop .inv) (c .loop-test .left)
+    ∙ (λ k. add-row (b .args .top) (b .args .ps .now) (b .args .from) (λ x. v k) (b .args .w))))

@@ -12,15 +12,9 @@ use Rattle.pixels.proofs.shift_row.Tie as tie
 held : (s : tie.Start) → toZ w32 (ofZ w32 (s .args .v)) ≡ s .args .v
 held s = toZ-ofZ w32 (s .args .v) (s .fits .v)
 
-returns : tie.Need-returns
-returns c =
-    let t = c .before .before .before .before in let s = t .before .before in c .before .before .shift-pixels .ensures
-    ∙ (λ i. add-row (s .args .top) (s .args .ps .now) (s .args .from) (λ x. held s i) (sym (t .if1 .taken) i))
-
-returns-2 : tie.Need-returns-2
-returns-2 c =
-    let s = c .before .before .before .before .before .before in
-    c .before .before .shift-pixels2 .ensures ∙ (λ i. add-row (s .args .top) (s .args .ps .now) (s .args .from) (λ x. held s i) (s .args .w))
-
 pub shift-row-spec : {M : Type 1} → statement M
-shift-row-spec = tie.close (tie.spec (λ c κs. search needs) (λ c κs. search needs) (λ c. search needs) returns (λ c. search needs) returns-2)
+shift-row-spec = tie.close (tie.spec (λ c κs. search needs) (λ c κs. search needs) (λ c. search needs)
+    (λ c. let t = c .before .before .before .before in let s = t .before .before in c .before .before .shift-pixels .ensures
+    ∙ (λ i. add-row (s .args .top) (s .args .ps .now) (s .args .from) (λ x. held s i) (sym (t .if1 .taken) i)))
+    (λ c. search needs) (λ c. let s = c .before .before .before .before .before .before in
+    c .before .before .shift-pixels2 .ensures ∙ (λ i. add-row (s .args .top) (s .args .ps .now) (s .args .from) (λ x. held s i) (s .args .w))))

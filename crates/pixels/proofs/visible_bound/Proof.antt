@@ -19,8 +19,7 @@ module _ (s : tie.Start) {t : Spot} {n : ℕ} (e : s .args .spot .columns ≡ n)
   low r k = subst (Low r (s .args .ps .now)) (wide-same e is) k
 
 pub visible-bound-spec : {M : Type 1} → statement M
-visible-bound-spec =
-    tie.close (tie.spec
+visible-bound-spec = tie.close (tie.spec
     (λ c κs. search needs) (λ c κs. looks (c .before .before .before) (c .before .if1 .taken) (c .wide .ensures)) (λ c.
     low (c .before .before .before .before) (c .before .before .if1 .taken) (c .before .wide .ensures) (c .rows-bound .result)
     (c .rows-bound .ensures)) (λ c κs. search needs)

@@ -7,6 +7,5 @@ use Rattle.sgrifomel.proofs.bit.Statement.{statement}
 use Rattle.sgrifomel.proofs.bit.Tie as tie
 
 pub bit-spec : {M : Type 1} → statement M
-bit-spec =
-    tie.close (tie.spec (λ c. (ap (λ (m : Bool). 256 * cond m 1 0) (sym (c .if1 .taken)), lit≤ tt))
+bit-spec = tie.close (tie.spec (λ c. (ap (λ (m : Bool). 256 * cond m 1 0) (sym (c .if1 .taken)), lit≤ tt))
     (λ c. (ap (λ (m : Bool). 256 * cond m 1 0) (sym (c .if1 .left)), lit≤ tt)))

@@ -16,8 +16,7 @@ word p = packed (answer-of p)
 
 -- an acceptance has the mark alone
 alone : (m : Bool) → 256 * cond m 1 0 ≡ word (Done m)
-alone true = refl
-alone false = refl
+alone = elim [ true ↦ refl | false ↦ refl ]
 
 -- the number of an element that was found
 small : (c : tie.After-known-told2) → c .before .pass2 .given .0 .0 < 1024

@@ -9,8 +9,7 @@ use Rattle.sgrifomel.proofs.sgrifomel_inv_flipadst4_1d.Statement.{state
 use Rattle.sgrifomel.proofs.sgrifomel_inv_flipadst4_1d.Tie as tie
 
 pub sgrifomel-inv-flipadst4-1d-spec : {M : Type 1} → statement M
-sgrifomel-inv-flipadst4-1d-spec =
-    tie.close (tie.spec (λ c κs. search needs)
+sgrifomel-inv-flipadst4-1d-spec = tie.close (tie.spec (λ c κs. search needs)
     (λ c κs. packable (c .before .inv-flipadst4-1d .ensures .answer) (small-ranged FlipAdst of4 _ _ _ _)) (λ c. search needs)
     (λ c. let f = c .before .before .before .before .fits in
     packs (plain (ranged FlipAdst of4 _ _) (f .min) (f .max) (c .before .before .inv-flipadst4-1d .ensures)) (c .pack .ensures)))

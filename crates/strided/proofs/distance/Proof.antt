@@ -7,22 +7,13 @@ use Rattle.strided.proofs.Casts.{size-32, wide-fits, sign-is, negated-f
 use Rattle.strided.proofs.distance.Statement.{statement}
 use Rattle.strided.proofs.distance.Tie as tie
 
-cast-result-2 : tie.Need-cast-result-2
-cast-result-2 c =
-    let s = c .before in let n = negative (s .args .v) (sign-is (s .args .v) (s .fits .v) (c .if1 .taken)) in
-    to-usize _ _ (negated-is (s .args .v) (s .fits .v)) (n .0) (omega (arith, n .1, size-32 (s .args .v) (s .fits .v)))
-
-cast-result-3 : tie.Need-cast-result-3
-cast-result-3 c =
-    let s = c .before in to-usize _ _ (toZ-ofZ w32 (s .args .v) (s .fits .v))
-    (nonnegative (s .args .v) (sign-is (s .args .v) (s .fits .v) (c .if1 .left))) (omega (arith, size-32 (s .args .v) (s .fits .v)))
-
-returns : tie.Need-returns
-returns c =
-    let s = c .before in
-    ap natAbs (negated-is (s .args .v) (s .fits .v)) ∙ negative (s .args .v) (sign-is (s .args .v) (s .fits .v) (c .if1 .taken)) .1
-
 pub distance-spec : {M : Type 1} → statement M
 distance-spec = tie.close (tie.spec (λ c. let s = c .before in wide-fits (s .args .v) (s .fits .v))
-    (λ c. let s = c .before in negated-fits (s .args .v) (s .fits .v)) cast-result-2 cast-result-3 returns
+    (λ c. let s = c .before in negated-fits (s .args .v) (s .fits .v))
+    (λ c. let s = c .before in let n = negative (s .args .v) (sign-is (s .args .v) (s .fits .v) (c .if1 .taken)) in
+    to-usize _ _ (negated-is (s .args .v) (s .fits .v)) (n .0) (omega (arith, size-32 (s .args .v) (s .fits .v))))
+    (λ c. let s = c .before in to-usize _ _ (toZ-ofZ w32 (s .args .v) (s .fits .v))
+    (nonnegative (s .args .v) (sign-is (s .args .v) (s .fits .v) (c .if1 .left))) (omega (arith, size-32 (s .args .v) (s .fits .v))))
+    (λ c. let s = c .before in
+    ap natAbs (negated-is (s .args .v) (s .fits .v)) ∙ negative (s .args .v) (sign-is (s .args .v) (s .fits .v) (c .if1 .taken)) .1)
     (λ c. let s = c .before in ap natAbs (toZ-ofZ w32 (s .args .v) (s .fits .v))))

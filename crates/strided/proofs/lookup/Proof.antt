@@ -18,6 +18,7 @@ use Rattle.levels.specs.Plans.{shift-of}
 use Rattle.levels.specs.Inner.{shift-check}
 use Rattle.levels.proofs.Sizes.{side-bounds, shift-sided}
 use Rattle.strided.specs.declared.Spot.{Spot}
+use Rattle.strided.specs.declared.Part.{Part}
 use Rattle.strided.specs.declared.SpotCheck.{SpotCheck}
 use Rattle.strided.specs.declared.SpotCheck.the-variants.{Found, NotVisible, BadStride, RowOutside}
 use Rattle.strided.specs.declared.View.{View}
@@ -26,7 +27,7 @@ use Rattle.strided.specs.Planes.{starts, begins, spot, spotted, Spotted,
 use Rattle.whole.specs.Checks.{accepted}
 use Rattle.strided.specs.Inner.{spot-check}
 use Rattle.strided.proofs.Casts.{read, to-usize}
-use Rattle.strided.proofs.Rows.{rows-in, row-here, spotted-by}
+use Rattle.strided.proofs.Rows.{rows-in, row-here, spotted-by, part-fits}
 use Rattle.strided.proofs.lookup.Statement.{statement}
 use Rattle.strided.proofs.lookup.Tie as tie
 
@@ -40,10 +41,10 @@ module _ (s : tie.Start) where
       → part-when (p && (q && t)) (s .args .width) v (s .args .y) ≡ row-part (s .args .width) (s .args .size) v (s .args .w) (s .args .h) (s .args .y)
   by-tests e f g = sym (λ i. part-when (e i && (f i && g i)) (s .args .width) v (s .args .y))
 
-returns : tie.Need-returns
-returns c =
-    let o = c .before .before in
-    by-tests (o .before) (ap accepted (sym (o .size-shift .ensures) ∙ ap shift-check (c .enum-told2 .given .1))) refl refl
+  -- in any case the part is inside
+  inside : {p : Part} → let r = row-part (s .args .width) (s .args .size) v (s .args .w) (s .args .h) (s .args .y) in
+      p ≡ r → (p ≡ r) × (p .from + p .size ≤ s .args .size)
+  inside e = (e, part-fits (s .args .width) (s .args .size) v (s .args .w) (s .args .h) (s .args .y) e)
 
 -- after the size
 module _ (c : tie.After-enum-told) where
@@ -57,15 +58,7 @@ module _ (c : tie.After-enum-told) where
   h-small = side-bounds _ (shift-sided (begun .args .w) (begun .args .h) (c .enum-told .given .0 .0) shift-is .1) .1
 
 not-found : (k : SpotCheck) → OneOf (1 ∷ 2 ∷ 3 ∷ []) (tagOf the-type k) → accepted (spot-check k) ≡ false
-not-found (Found s) h = absurd (miss (1 ∷ 2 ∷ 3 ∷ []) 0 tt h)
-not-found NotVisible h = refl
-not-found BadStride h = refl
-not-found RowOutside h = refl
-
-returns-2 : tie.Need-returns-2
-returns-2 c =
-    let o = c .before in by-tests (begun (o .before)) (ap accepted (shift-is (o .before)))
-    (ap accepted (sym (o .spot .ensures)) ∙ not-found (o .spot .result) (c .match2 .keys2)) refl
+not-found = elim [ Found s ↦ λ h. absurd (miss (1 ∷ 2 ∷ 3 ∷ []) 0 tt h) | NotVisible ↦ λ h. refl | BadStride ↦ λ h. refl | RowOutside ↦ λ h. refl ]
 
 -- after the view
 module _ (c : tie.After-known-told) where
@@ -100,15 +93,10 @@ module _ (c : tie.Else1) where
   at = spot (s k .args .width) (v (s k))
 
   below : s k .args .y < at .rows
-  below = omega (arith, rows-are k, c .if1 .left)
+  below = omega (arith, rows-are k)
 
   here : (nn (starts (at .offset) (at .stride .0) (s k .args .y)) ≡ 0) × (begins at (s k .args .y) + at .columns ≤ s k .args .size)
   here = row-here (s k .args .size) at (view-is k .0 .inside) (s k .args .y) below
-
-cast-start : tie.Need-cast-start
-cast-start c =
-    let e = c .before in let a = s (k e) .args in
-    record { fits = omega (arith, below e, rows-in (a .w) (a .h) (a .view) (view-is (k e) .0 .seen) .1, h-small (sized (k e))) }
 
 from-is : (c : tie.After-start) → let e = c .before .before in
     read w64 (c .start .result) ≡ starts (at e .offset) (at e .stride .0) (s (k e) .args .y)
@@ -116,14 +104,16 @@ from-is c =
     let e = c .before .before in toZ-ofZ w64 (c .start .result) (record { sfits = c .start .ok }) ∙ c .start .ensures
     ∙ ap (λ (a : Spot). starts (a .offset) (a .stride .0) (s (k e) .args .y)) (view-is (k e) .1)
 
-returns-4 : tie.Need-returns-4
-returns-4 c =
-    let e = c .before .before in
-    (λ i. record { from = natAbs (from-is c i); size = view-is (k e) .1 i .columns }) ∙ decided (k e) (lt-ltb _ _ (e .if1 .left))
-
 pub lookup-spec : {M : Type 1} → statement M
-lookup-spec =
-    tie.close (tie.spec (λ c κs. search needs) (λ c. search needs) (λ c. search needs) returns (λ c κs. search needs)
-    (λ c. search needs) returns-2 (λ c. decided (c .before) (le-ltb _ _ (c .if1 .taken))) cast-start (λ c κs. search needs)
+lookup-spec = tie.close (tie.spec (λ c κs. search needs) (λ c. search needs) (λ c. search needs)
+    (λ c. let o = c .before .before in
+    inside (o .before) (by-tests (o .before) (ap accepted (sym (o .size-shift .ensures) ∙ ap shift-check (c .enum-told2 .given .1))) refl refl))
+    (λ c κs. search needs) (λ c. search needs)
+    (λ c. let o = c .before in inside (begun (o .before)) (by-tests (begun (o .before)) (ap accepted (shift-is (o .before)))
+    (ap accepted (sym (o .spot .ensures)) ∙ not-found (o .spot .result) (c .match2 .keys2)) refl))
+    (λ c. inside (s (c .before)) (decided (c .before) (le-ltb _ _ (c .if1 .taken)))) (λ c. let e = c .before in let a = s (k e) .args in
+    record { fits = omega (arith, below e, rows-in (a .w) (a .h) (a .view) (view-is (k e) .0 .seen) .1, h-small (sized (k e))) })
+    (λ c κs. search needs)
     (λ c. let e = c .before .before in to-usize _ _ (from-is c) (here e .0) (omega (arith, here e .1, s (k e) .fits .size)))
-    returns-4)
+    (λ c. let e = c .before .before in inside (s (k e))
+    ((λ i. record { from = natAbs (from-is c i); size = view-is (k e) .1 i .columns }) ∙ decided (k e) (lt-ltb _ _ (e .if1 .left)))))

@@ -38,11 +38,6 @@ returns c =
     (s .args .coeff .now) false (w .by-wht .last .0) (w .by-wht .last .1 .1 .0)) (plan-is e)
     (w .by-wht .ensures (s .args .plan .shift)))
 
-resolve-requires : tie.Need-resolve-requires
-resolve-requires c κs =
-    let s = c .before .before .before .before .before in
-    (record { sized = s .pre .0 .sized; coefs = s .pre .0 .coefs; some-rows = s .pre .1; empty = zeros-at 1024; long = refl }, s .pre .2)
-
 add-block-requires : tie.Need-add-block-requires
 add-block-requires c κs =
     let s = c .before .before .before .before .before .before .before .before .before in let k = s .pre .0 .sized in
@@ -50,16 +45,16 @@ add-block-requires c κs =
     (mul-le-mul (side-bounds _ (k .height) .1) (side-bounds _ (k .width) .1)) (s .pre .0 .inside)
 
 returns-2 : tie.Need-returns-2
-returns-2 c =
-    let o = c .before .before .before .before .before in let b = o .before .before .before .before in
+returns-2 c = let o = c .before .before .before .before .before in let b = o .before .before .before .before in
     let s = b .before .before .before .before .before .before in
     painted (b .resolve .ensures) (s .pre .0 .columns-in) (s .pre .0 .rows-in) (b .before .before .before .maximum .ensures)
     (o .add-block .ensures) (c .before .clear .ensures)
 
 pub by-passes-spec : {M : Type 1} → statement M
-by-passes-spec =
-    tie.close (tie.spec (λ c. search needs) (λ c. search needs) by-wht-requires (λ c. search needs)
-    (λ c. search needs) returns (λ c. search needs) (λ c κs. search needs) (λ c. search needs) resolve-requires
+by-passes-spec = tie.close (tie.spec (λ c. search needs) (λ c. search needs) by-wht-requires (λ c. search needs)
+    (λ c. search needs) returns (λ c. search needs) (λ c κs. search needs) (λ c. search needs)
+    (λ c κs. let s = c .before .before .before .before .before in
+    (record { sized = s .pre .0 .sized; coefs = s .pre .0 .coefs; some-rows = s .pre .1; empty = zeros-at 1024; long = refl }, s .pre .2))
     (λ c. search needs) add-block-requires (λ c.
     let k = c .before .before .before .before .before .before .before .before .before .before .before .before .before .pre .0 .sized in
     omega (arith, mul-le-mul (side-bounds _ (k .width) .1) (side-bounds _ (k .height) .1)))

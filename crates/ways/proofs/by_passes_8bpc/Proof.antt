@@ -32,12 +32,6 @@ by-wht-requires c κs =
       any-shift-copy 0 (subst (λ (q : Plan). Widened q (s .args .coeff .now) (s .args .c .now)) (plan-is e) (s .pre .2)),
     )
 
-returns : tie.Need-returns
-returns c =
-    let w = c .before .before .before in let e = w .before .before .before in let s = begun e in
-    subst⁻¹ (λ (q : Plan). Passed First q Eight (s .args .spot) (s .args .r) (s .args .dst .now) (s .args .coeff .now) false
-    (w .by-wht-8bpc .last .0) (w .by-wht-8bpc .last .1 .1 .0)) (plan-is e) (w .by-wht-8bpc .ensures (s .args .plan .shift))
-
 resolve-requires : tie.Need-resolve-requires
 resolve-requires c κs =
     let s = c .before .before .before in (
@@ -58,15 +52,16 @@ add-block-requires c κs =
     (mul-le-mul (side-bounds _ (k .height) .1) (side-bounds _ (k .width) .1)) (s .pre .0 .inside)
 
 returns-2 : tie.Need-returns-2
-returns-2 c =
-    let o = c .before .before .before .before .before in let b = o .before .before .before .before in
+returns-2 c = let o = c .before .before .before .before .before in let b = o .before .before .before .before in
     let s = b .before .before .before .before in
     painted (resolved-copy (s .pre .2) (s .pre .1) (b .resolve .ensures)) (s .pre .0 .columns-in) (s .pre .0 .rows-in) refl
     (o .add-block-8bpc .ensures) (c .before .clear-8bpc .ensures)
 
 pub by-passes-8bpc-spec : {M : Type 1} → statement M
-by-passes-8bpc-spec =
-    tie.close (tie.spec (λ c. search needs) by-wht-requires (λ c. search needs) (λ c. search needs) returns
+by-passes-8bpc-spec = tie.close (tie.spec (λ c. search needs) by-wht-requires (λ c. search needs) (λ c. search needs)
+    (λ c. let w = c .before .before .before in let e = w .before .before .before in let s = begun e in
+    subst⁻¹ (λ (q : Plan). Passed First q Eight (s .args .spot) (s .args .r) (s .args .dst .now) (s .args .coeff .now) false
+    (w .by-wht-8bpc .last .0) (w .by-wht-8bpc .last .1 .1 .0)) (plan-is e) (w .by-wht-8bpc .ensures (s .args .plan .shift)))
     (λ c. search needs) resolve-requires (λ c. search needs) add-block-requires (λ c.
     let k = c .before .before .before .before .before .before .before .before .before .before .before .pre .0 .sized in
     omega (arith, mul-le-mul (side-bounds _ (k .width) .1) (side-bounds _ (k .height) .1)))

@@ -1,34 +1,17 @@
 -- `ways::by_shortcut` meets its contract.
-use mathlib.Core.Path.{_≡_, refl, ap, _∙_, subst⁻¹}
-use Prim.Native.Nat.{_*_, _≤_, _<_}
-use native.Mathlib.Nat.{mul-le-mul}
-use native.Mathlib.Omega.{arith}
+use mathlib.Core.Path.{_≡_, ap, _∙_, subst⁻¹}
+use Prim.Native.Nat.{_≤_}
 use lib.IntN.{ℤ, natAbs}
-use lib.ListN.{length}
 use mir.Syntax.{w32}
 use mir.Val.{toZ, ofZ}
 use mir.ValLaws.{toZ-ofZ}
 use borrow.Author.Needs.{needs}
 use Rattle.whole.specs.Lists.{at}
 use Rattle.bitdepth.specs.Depths.{maximum}
-use Rattle.levels.proofs.Sizes.{side-bounds}
-use Rattle.strided.specs.Planes.{begins}
-use Rattle.pixels.specs.Adds.{add-rows}
 use Rattle.residual.specs.Blocks.{shortcut}
+use Rattle.ways.proofs.Painting.{area, there, shifting, shortened}
 use Rattle.ways.proofs.by_shortcut.Statement.{statement}
 use Rattle.ways.proofs.by_shortcut.Tie as tie
-
--- a first coefficient is there
-module _ (s : tie.Start) where
-  area : 1 ≤ s .args .plan .w * s .args .plan .h
-  area = omega (
-    arith,
-    mul-le-mul (side-bounds (s .args .plan .w) (s .pre .sized .width) .0)
-        (side-bounds (s .args .plan .h) (s .pre .sized .height) .0),
-  )
-
-  there : 0 < length (s .args .coeff .now)
-  there = omega (arith, area, s .pre .coefs .count)
 
 -- the number that is added
 module _ (o : tie.After-shortcut) where
@@ -48,30 +31,12 @@ module _ (o : tie.After-shortcut) where
   small : natAbs number ≤ 16777216
   small = subst⁻¹ (λ (z : ℤ). natAbs z ≤ 16777216) held (o .shortcut .ensures .1)
 
-shift-block-requires : tie.Need-shift-block-requires
-shift-block-requires c κs =
-    let o = c .before in let s = begun o in record {
-      height = omega (arith, s .pre .rows-in, side-bounds (s .args .plan .h) (s .pre .sized .height) .1);
-      inside = s .pre .inside;
-      small = small o;
-    }
-
-returns : tie.Need-returns
-returns c =
-    let b = c .before .before in let o = b .before .before in let s = begun o in record {
-      pixels-are = b .shift-block .ensures
-          ∙ (λ k. add-rows (o .before .before .maximum .ensures k) (s .args .dst .now) (begins (s .args .spot))
-          (λ y x. number-is o k) (s .args .spot .columns) (s .args .spot .rows));
-      coefs-are = refl;
-    }
-
 pub by-shortcut-spec : {M : Type 1} → statement M
-by-shortcut-spec =
-    tie.close (tie.spec (λ c κs. search needs) (λ c. there (c .before .before))
+by-shortcut-spec = tie.close (tie.spec (λ c κs. search needs) (λ c. there (c .before .before .pre))
     (λ c κs. let s = c .before .before .before in (
       s .pre .sized,
       subst⁻¹ (λ (z : ℤ). natAbs z ≤ 524288)
-          (toZ-ofZ w32 (at (s .args .coeff .now) 0) (record { sfits = c .first .given })) (s .pre .coefs .small 0 (area s)),
-    ))
-    shift-block-requires (λ c. there (begun (c .before .before .before .before))) (λ c. search needs)
-    (λ c. search needs) returns)
+          (toZ-ofZ w32 (at (s .args .coeff .now) 0) (record { sfits = c .first .given })) (s .pre .coefs .small 0 (area (s .pre))),
+    )) (λ c κs. shifting (begun (c .before) .pre) (small (c .before))) (λ c. there (begun (c .before .before .before .before) .pre)) (λ c. search needs)
+    (λ c. search needs) (λ c. let b = c .before .before in let o = b .before .before in
+    shortened (begun o .pre) (o .before .before .maximum .ensures) (number-is o) (b .shift-block .ensures)))

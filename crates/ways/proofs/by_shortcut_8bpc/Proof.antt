@@ -1,34 +1,17 @@
 -- `ways::by_shortcut_8bpc` meets its contract.
 use mathlib.Core.Path.{_≡_, refl, ap, _∙_, subst⁻¹}
-use Prim.Native.Nat.{_*_, _≤_, _<_}
-use native.Mathlib.Nat.{mul-le-mul}
-use native.Mathlib.Omega.{arith}
+use Prim.Native.Nat.{_≤_}
 use lib.IntN.{ℤ, natAbs}
-use lib.ListN.{length}
 use mir.Syntax.{w16, w32}
 use mir.Val.{SFits, toZ, ofZ}
 use mir.ValLaws.{toZ-ofZ}
 use borrow.Author.Needs.{needs}
 use Rattle.whole.specs.Lists.{at}
-use Rattle.levels.proofs.Sizes.{side-bounds}
 use Rattle.coefs.proofs.Shorts.{wide-fits, wide-is}
-use Rattle.strided.specs.Planes.{begins}
-use Rattle.pixels.specs.Adds.{add-rows}
 use Rattle.residual.specs.Blocks.{shortcut}
+use Rattle.ways.proofs.Painting.{area, there, shifting, shortened}
 use Rattle.ways.proofs.by_shortcut_8bpc.Statement.{statement}
 use Rattle.ways.proofs.by_shortcut_8bpc.Tie as tie
-
--- a first coefficient is there
-module _ (s : tie.Start) where
-  area : 1 ≤ s .args .plan .w * s .args .plan .h
-  area = omega (
-    arith,
-    mul-le-mul (side-bounds (s .args .plan .w) (s .pre .sized .width) .0)
-        (side-bounds (s .args .plan .h) (s .pre .sized .height) .0),
-  )
-
-  there : 0 < length (s .args .coeff .now)
-  there = omega (arith, area, s .pre .coefs .count)
 
 module _ (f : tie.After-first) where
   abbrev start : tie.Start
@@ -54,29 +37,12 @@ module _ (o : tie.After-shortcut) where
   small : natAbs number ≤ 16777216
   small = subst⁻¹ (λ (z : ℤ). natAbs z ≤ 16777216) held (o .shortcut .ensures .1)
 
-shift-block-requires : tie.Need-shift-block-8bpc-requires
-shift-block-requires c κs =
-    let o = c .before in let s = begun o in record {
-      height = omega (arith, s .pre .rows-in, side-bounds (s .args .plan .h) (s .pre .sized .height) .1);
-      inside = s .pre .inside;
-      small = small o;
-    }
-
-returns : tie.Need-returns
-returns c =
-    let b = c .before .before in let o = b .before .before in let s = begun o in record {
-      pixels-are = b .shift-block-8bpc .ensures
-          ∙ (λ k. add-rows 255 (s .args .dst .now) (begins (s .args .spot)) (λ y x. number-is o k) (s .args .spot .columns)
-          (s .args .spot .rows));
-      coefs-are = refl;
-    }
-
 pub by-shortcut-8bpc-spec : {M : Type 1} → statement M
 by-shortcut-8bpc-spec =
-    tie.close (tie.spec (λ c. there (c .before)) (λ c. wide-fits (at (start c .args .coeff .now) 0) (read c))
+    tie.close (tie.spec (λ c. there (c .before .pre)) (λ c. wide-fits (at (start c .args .coeff .now) 0) (read c))
     (λ c κs. let s = start c in (
       s .pre .sized,
-      subst⁻¹ (λ (z : ℤ). natAbs z ≤ 524288) (wide-is (at (s .args .coeff .now) 0) (read c)) (s .pre .coefs .small 0 (area s)),
-    ))
-    shift-block-requires (λ c. there (begun (c .before .before .before .before))) (λ c. search needs)
-    (λ c. search needs) returns)
+      subst⁻¹ (λ (z : ℤ). natAbs z ≤ 524288) (wide-is (at (s .args .coeff .now) 0) (read c)) (s .pre .coefs .small 0 (area (s .pre))),
+    )) (λ c κs. shifting (begun (c .before) .pre) (small (c .before))) (λ c. there (begun (c .before .before .before .before) .pre)) (λ c. search needs)
+    (λ c. search needs) (λ c. let b = c .before .before in let o = b .before .before in
+    shortened (begun o .pre) refl (number-is o) (b .shift-block-8bpc .ensures)))

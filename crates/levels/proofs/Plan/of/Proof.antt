@@ -10,11 +10,6 @@ use Rattle.levels.proofs.Sizes.{side-bounds, shift-sided, plan-by}
 use Rattle.levels.proofs.Plan.of.Statement.{statement}
 use Rattle.levels.proofs.Plan.of.Tie as tie
 
-returns : tie.Need-returns
-returns c =
-    let a = c .before .before .before .args in
-    ap (λ s. then s (with-shift (a .w) (a .h) (a .txtp))) (sym (ap shift-check (c .enum-told .given .1)) ∙ c .before .before .size-shift .ensures)
-
 module _ (c : tie.After-known-told) where
   abbrev w : ℕ
   w = c .before .before .before .before .args .w
@@ -35,18 +30,12 @@ module _ (c : tie.After-known-told) where
   decided : (t : TypeCheck) → kinds-check t ≡ kinds-of w h type → then (kinds-check t) (with-kinds w h shift) ≡ plan w h type
   decided t e = plan-by w h type shift (kinds-check t) shift-is e
 
-type-kinds-requires : tie.Need-type-kinds-requires
-type-kinds-requires c κs =
-    let s = shift-sided (w c) (h c) (shift c) (shift-is c) in (side-bounds (w c) (s .0) .1, side-bounds (h c) (s .1) .1)
-
-returns-2 : tie.Need-returns-2
-returns-2 c = decided (c .before .before .before) NoKinds (ap kinds-check (sym (c .enum-told2 .given .1)) ∙ c .before .before .type-kinds .ensures)
-
-returns-3 : tie.Need-returns-3
-returns-3 c =
-    let f = c .before .rows .given in decided (c .before .before .before .before) (Kinds (f .0 .0) (f .0 .1 .0))
-    (ap kinds-check (sym (f .1)) ∙ c .before .before .before .type-kinds .ensures)
-
 pub of-spec : {M : Type 1} → statement M
-of-spec = tie.close (tie.spec (λ c κs. search needs) (λ c. search needs) (λ c. search needs) returns type-kinds-requires
-    (λ c. search needs) (λ c. search needs) returns-2 returns-3)
+of-spec = tie.close (tie.spec (λ c κs. search needs) (λ c. search needs) (λ c. search needs)
+    (λ c. let a = c .before .before .before .args in
+    ap (λ s. then s (with-shift (a .w) (a .h) (a .txtp))) (sym (ap shift-check (c .enum-told .given .1)) ∙ c .before .before .size-shift .ensures))
+    (λ c κs. let s = shift-sided (w c) (h c) (shift c) (shift-is c) in (side-bounds (w c) (s .0) .1, side-bounds (h c) (s .1) .1))
+    (λ c. search needs) (λ c. search needs)
+    (λ c. decided (c .before .before .before) NoKinds (ap kinds-check (sym (c .enum-told2 .given .1)) ∙ c .before .before .type-kinds .ensures))
+    (λ c. let f = c .before .rows .given in decided (c .before .before .before .before) (Kinds (f .0 .0) (f .0 .1 .0))
+    (ap kinds-check (sym (f .1)) ∙ c .before .before .before .type-kinds .ensures)))

@@ -24,16 +24,6 @@ outside s = rows-outside (s .args .size) (s .args .offset) (s .args .self .0) (s
 by-test : (s : tie.Start) {t : Bool} → outside s ≡ t → unless {A = Unit {0}} t 8 (accept tt) ≡ unless (outside s) 8 (accept tt)
 by-test s e = ap (λ (t : Bool). unless t 8 (accept tt)) (sym e)
 
-returns-2 : tie.Need-returns-2
-returns-2 c =
-    let s = c .before .before .before in
-    by-test s (one-beyond (s .args .size) (s .args .offset) (s .args .self .0) (s .args .w) (s .args .h) 0 (omega arith) (omega arith))
-
-returns-3 : tie.Need-returns-3
-returns-3 c =
-    let s = c .before .before .before .before in
-    by-test s (one-beyond (s .args .size) (s .args .offset) (s .args .self .0) (s .args .w) (s .args .h) 0 (omega arith) (omega arith))
-
 -- the stride, its size, and that the first row is inside
 module _ (c : tie.After-distance) where
   abbrev s : tie.Start
@@ -67,8 +57,7 @@ module _ (c : tie.Joined5) where
 
   side : ((pp (stride d) ≡ 0) × (c .if5 .room ≡ s d .args .offset))
       ⊎ ((nn (stride d) ≡ 0) × (c .if5 .room ≡ s d .args .size - s d .args .w - s d .args .offset))
-  side =
-      ⊎-elim (λ e. inl (below-zero (stride d) (sign-is (stride d) (fits d) (e .0 .taken)), e .1))
+  side = ⊎-elim (λ e. inl (below-zero (stride d) (sign-is (stride d) (fits d) (e .0 .taken)), e .1))
       (λ e. inr (nonnegative (stride d) (sign-is (stride d) (fits d) (e .0 .left)), e .1)) (c .if5 .came)
 
   -- the test of the quotient is a test of the product
@@ -78,18 +67,15 @@ module _ (c : tie.Joined5) where
   by-step : (h : ℕ) → h * d .distance .result ≡ h * natAbs (stride d)
   by-step h = ap (λ (n : ℕ). h * n) (step-is d)
 
-returns-5 : tie.Need-returns-5
-returns-5 c =
-    let j = c .before .before in let a = s (d j) .args in by-test (s (d j))
-    (room-short (a .size) (a .offset) (stride (d j)) (a .w) (a .h) (j .if5 .room) (first-in (d j)) (some-rows (d j)) (side j)
-    (omega (arith, div-lt-iff-lt-mul (step-pos j) .0 (c .if6 .taken), by-step j (a .h - 1))))
-
-returns-6 : tie.Need-returns-6
-returns-6 c =
-    let j = c .before .before in let a = s (d j) .args in by-test (s (d j))
-    (room-enough (a .size) (a .offset) (stride (d j)) (a .w) (a .h) (j .if5 .room) (first-in (d j)) (some-rows (d j)) (side j)
-    (omega (arith, le-div-iff-mul-le (step-pos j) .0 (c .if6 .left), by-step j (a .h - 1))))
-
 pub rows-spec : {M : Type 1} → statement M
-rows-spec = tie.close (tie.spec (λ c. search needs) returns-2 returns-3 (λ c κs. search needs) returns-4 (λ c. search needs)
-    (λ c. search needs) (λ c. search needs) returns-5 returns-6)
+rows-spec = tie.close (tie.spec (λ c. search needs) (λ c. let s = c .before .before .before in
+    by-test s (one-beyond (s .args .size) (s .args .offset) (s .args .self .0) (s .args .w) (s .args .h) 0 (omega arith) (omega arith)))
+    (λ c. let s = c .before .before .before .before in
+    by-test s (one-beyond (s .args .size) (s .args .offset) (s .args .self .0) (s .args .w) (s .args .h) 0 (omega arith) (omega arith)))
+    (λ c κs. search needs) returns-4 (λ c. search needs) (λ c. search needs) (λ c. search needs)
+    (λ c. let j = c .before .before in let a = s (d j) .args in by-test (s (d j))
+    (room-short (a .size) (a .offset) (stride (d j)) (a .w) (a .h) (j .if5 .room) (first-in (d j)) (some-rows (d j)) (side j)
+    (omega (arith, div-lt-iff-lt-mul (step-pos j) .0 (c .if6 .taken), by-step j (a .h - 1)))))
+    (λ c. let j = c .before .before in let a = s (d j) .args in by-test (s (d j))
+    (room-enough (a .size) (a .offset) (stride (d j)) (a .w) (a .h) (j .if5 .room) (first-in (d j)) (some-rows (d j)) (side j)
+    (omega (arith, le-div-iff-mul-le (step-pos j) .0 (c .if6 .left), by-step j (a .h - 1))))))

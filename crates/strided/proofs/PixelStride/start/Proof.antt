@@ -30,12 +30,9 @@ module _ (c : tie.After-struct-told) where
   bounded : Within numbers bounds
   bounded = (omega arith, (omega arith, (subst⁻¹ (λ (z : ℤ). natAbs z ≤ 2147483648) (toZ-ofZ w32 stride fits) (size-32 stride fits), tt)))
 
-returns : tie.Need-returns
-returns c =
-    let a = c .before .before .args in reads (numbers c) bounds (bounded c) (var 0 ⊕ var 1 ⊛ var 2) w64 tt
-    ∙ ap (λ (z : ℤ). starts (a .offset) z (a .y)) (toZ-ofZ w32 (stride c) (fits c))
-
 pub start-spec : {M : Type 1} → statement M
 start-spec = tie.close (tie.spec (λ c. search needs) (λ c. search needs) (λ c. wide-fits (stride c) (fits c))
     (λ c. need (numbers c) bounds (bounded c) (var 1 ⊛ var 2) w64 tt)
-    (λ c. need (numbers c) bounds (bounded c) (var 0 ⊕ var 1 ⊛ var 2) w64 tt) returns)
+    (λ c. need (numbers c) bounds (bounded c) (var 0 ⊕ var 1 ⊛ var 2) w64 tt)
+    (λ c. let a = c .before .before .args in reads (numbers c) bounds (bounded c) (var 0 ⊕ var 1 ⊛ var 2) w64 tt
+    ∙ ap (λ (z : ℤ). starts (a .offset) z (a .y)) (toZ-ofZ w32 (stride c) (fits c))))

@@ -22,11 +22,6 @@ module _ (s : tie.Start) where
       (s .args .w) (s .args .h) v
   by-tests e f g = sym (λ i. unless (e i) 20 (unless (f i) 7 (unless (g i) 8 (accept (spot (s .args .width) v)))))
 
-returns-2 : tie.Need-returns-2
-returns-2 c =
-    let o = c .before .before in let s = o .before .before .before in by-tests s (o .before .if1 .left)
-    (refused-by _ 7 (in-pixels (s .args .width) (v s .stride .0)) (sym (o .in-pixels .ensures) ∙ ap stride-check (c .enum-told .given .1))) refl
-
 -- after the stride
 module _ (c : tie.After-rows) where
   abbrev s : tie.Start
@@ -52,17 +47,13 @@ module _ (c : tie.After-rows) where
       → unless t 8 (accept (spot (s .args .width) (v s))) ≡ spotted (s .args .width) (s .args .size) (s .args .w) (s .args .h) (v s)
   judged e = by-tests s (c .before .before .before .before .before .if1 .left) (opened .0) (ap outside pixels-are ∙ e)
 
-returns-3 : tie.Need-returns-3
-returns-3 c = let o = c .before .before in judged o (refused-by _ 8 tt (sym (o .rows .ensures) ∙ ap rows-check (c .enum-told3 .given .1)))
-
-returns-4 : tie.Need-returns-4
-returns-4 c =
-    let o = c .before .before in let a = v (s o) in
-    ap (λ (z : ℤ). accept (record { offset = a .offset; stride = record { 0 = z }; columns = a .columns; rows = a .rows })) (sym (pixels-are o))
-    ∙ judged o (open-unless _ 8 (accept tt) tt (sym (o .rows .ensures) ∙ ap rows-check (c .enum-told2 .given .1)) .0)
-
 pub spot-spec : {M : Type 1} → statement M
-spot-spec =
-    tie.close (tie.spec (λ c. by-tests (c .before .before) (c .if1 .taken) refl refl)
-    (λ c κs. search needs) (λ c. search needs) (λ c. search needs) returns-2 (λ c κs. search needs)
-    (λ c. search needs) (λ c. search needs) returns-3 returns-4)
+spot-spec = tie.close (tie.spec (λ c. by-tests (c .before .before) (c .if1 .taken) refl refl)
+    (λ c κs. search needs) (λ c. search needs) (λ c. search needs)
+    (λ c. let o = c .before .before in let s = o .before .before .before in by-tests s (o .before .if1 .left)
+    (refused-by _ 7 (in-pixels (s .args .width) (v s .stride .0)) (sym (o .in-pixels .ensures) ∙ ap stride-check (c .enum-told .given .1))) refl)
+    (λ c κs. search needs) (λ c. search needs) (λ c. search needs)
+    (λ c. let o = c .before .before in judged o (refused-by _ 8 tt (sym (o .rows .ensures) ∙ ap rows-check (c .enum-told3 .given .1))))
+    (λ c. let o = c .before .before in let a = v (s o) in
+    ap (λ (z : ℤ). accept (record { offset = a .offset; stride = record { 0 = z }; columns = a .columns; rows = a .rows })) (sym (pixels-are o))
+    ∙ judged o (open-unless _ 8 (accept tt) tt (sym (o .rows .ensures) ∙ ap rows-check (c .enum-told2 .given .1)) .0)))
