@@ -9,7 +9,8 @@ use lib.Dec.{eqb}
 use lib.ListN.{length, take, drop, replicate, length-take, length-drop}
 use Rattle.blockfile.specs.Read.{Read, got, refused}
 use Rattle.blockfile.specs.Record.{Block, form}
-use Rattle.blockfile.specs.File.{here, refused-at, first, known}
+use Rattle.blockfile.specs.File.{here, refused-at, known}
+use Rattle.blockfile.specs.Inner.{first}
 use Rattle.blockfile.proofs.Writing.{put-length}
 use Rattle.tally.proofs.Tallies.{none-yet}
 use Rattle.jobs.specs.Task.{Written, ahead, Done, done, bad, Task}

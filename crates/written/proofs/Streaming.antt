@@ -9,7 +9,9 @@ use lib.ListN.{length}
 use borrow.Author.Tests.{eqb-true, eqb-false}
 use Rattle.blockfile.specs.Read.{Read, got, refused}
 use Rattle.blockfile.specs.Record.{Block, form}
-use Rattle.blockfile.specs.File.{here, refused-at, onward, records-in, records, first, known, read-file, read-blocks}
+use Rattle.blockfile.specs.File.{here, refused-at, onward, records-in, records, known, read-file}
+use Rattle.blockfile.specs.Form.{only-if}
+use Rattle.blockfile.specs.Inner.{first}
 use Rattle.blockfile.specs.File as File
 use Rattle.blockfile.proofs.Forms.{whole}
 use Rattle.blockfile.proofs.Rooms.{number-room, only-if-room}
@@ -36,7 +38,7 @@ module _ {S : Type 0} (t : Task S) where
 
   module _ (last : Bool) where
     at-first : (bs : List ℕ) → Follows t last outset bs (opened t last (first known .read bs))
-    unfolding opened remaining run read-blocks read-file File.opened told-file first
+    unfolding opened remaining run read-file File.opened told-file only-if
     at-first bs = go (first known .read bs) refl
       where
         few : (k : ℕ) → first known .read bs ≡ refused k → k ≡ 15 → length bs < 10265
