@@ -5,8 +5,8 @@ use mathlib.Core.List.{List, [], _∷_, _++_}
 use Prim.Native.Nat.{ℕ, suc, _+_, _-_, _*_, _≤_, _<_}
 use native.Mathlib.Omega.{arith}
 use native.Mathlib.Numerals.{add-one}
-use lib.ListN.{length, take, set, getD, drop, length-append, drop-of-length-le}
-use lib.Seq.{sets, length-sets, sets-eq, take-at, drop-cons}
+use lib.ListN.{length, set, getD, drop, length-append, drop-of-length-le}
+use lib.Seq.{sets, length-sets, drop-cons}
 use Rattle.blockfile.specs.Form.{Form, write-each}
 use Rattle.blockfile.specs.Inner.{Put}
 
@@ -17,16 +17,16 @@ sets-append (x ∷ xs) ys l i = sets-append xs ys (set l i x) (suc i) ∙ ap (λ
 pub put-length : {xs e f : List ℕ} {at r : ℕ} → Put xs e at f r → length f ≡ length e
 put-length {xs} {e} {at} a = ap length (a .elements) ∙ length-sets e at xs
 
+-- nothing was put
+pub put-none : {out : List ℕ} {put : ℕ} → put ≤ length out → Put [] out put out put
+put-none few = record { elements = refl; place = omega arith; room = few }
+
 pub put-then : {xs ys e m f : List ℕ} {at p r : ℕ} → Put xs e at m p → Put ys m p f r → Put (xs ++ ys) e at f r
 put-then {xs} {ys} {e} {at} a b = record {
   elements = b .elements ∙ (λ i. sets (a .elements i) (a .place i) ys) ∙ sym (sets-append xs ys e at);
   place = b .place ∙ rw length-append (omega (arith, a .place));
   room = omega (arith, b .room, put-length a);
 }
-
--- a list that was stored at the front stands there
-pub take-sets : {A : Type 0} (xs l : List A) (n : ℕ) → length xs ≡ n → n ≤ length l → take n (sets l 0 xs) ≡ xs
-take-sets xs l n is h = rw (sets-eq xs l 0 (omega arith)) (take-at xs _ n is)
 
 -- values that take five bytes at most
 pub each-short : {A : Type 0} (c : Form A) → ((a : A) → length (c .write a) ≤ 5) → (xs : List A) → length (write-each c xs) ≤ 5 * length xs

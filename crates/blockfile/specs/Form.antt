@@ -1,6 +1,6 @@
 -- A form: how the values of a type are written, and how they are read. Every form is made of numbers in four ways.
 use mathlib.Core.Bool.{Bool, cond}
-use mathlib.Core.List.{List, [], _∷_, _++_}
+use mathlib.Core.List.{List, [], _∷_, _++_, foldr}
 use Prim.Native.Nat.{ℕ, zero, suc}
 use Rattle.blockfile.specs.Read.{Read, got, refused, and-then}
 use Rattle.blockfile.specs.Number.{groups, digits}
@@ -35,8 +35,7 @@ followed c d = record {
 -- c, n times
 module _ {A : Type 0} (c : Form A) where
   unfoldable pub write-each : List A → List ℕ
-  write-each [] = []
-  write-each (x ∷ xs) = c .write x ++ write-each xs
+  write-each = foldr (λ x bytes. c .write x ++ bytes) []
 
   unfoldable pub read-each : ℕ → List ℕ → Read (List A)
   unfolding and-then

@@ -1,6 +1,6 @@
 -- What the code asks and answers, in terms of the definitions: places of slices instead of lists of bytes.
 use mathlib.Core.Path.{_≡_}
-use mathlib.Core.Bool.{cond, _&&_}
+use mathlib.Core.Bool.{Bool, cond, _&&_}
 use mathlib.Core.List.{List}
 use Prim.Native.Nat.{ℕ, _+_, _*_, _≤_, _<_}
 use lib.Dec.{eqb, ltb}
@@ -8,7 +8,7 @@ use lib.IntN.{ℤ}
 use lib.ListN.{length, take, drop}
 use lib.Seq.{sets}
 use Rattle.blockfile.specs.Read.{got, refused}
-use Rattle.blockfile.specs.Form.{Form, number, times}
+use Rattle.blockfile.specs.Form.{Form, number, only-if, times}
 use Rattle.blockfile.specs.Record.{Block, area, count, head-of, form}
 use Rattle.blockfile.specs.declared.number.Number.{Number}
 use Rattle.blockfile.specs.declared.number.Number.the-variants.{Got, Refused}
@@ -43,6 +43,10 @@ last-group value scale b next = cond (eqb b 0 && ltb 1 scale) (Refused 17) (Got 
 abbrev pub number-refusal : Number → ℕ
 number-refusal (Got v next) = 0
 number-refusal (Refused k) = k
+
+-- a file's first number, of those that pass a test
+abbrev pub first : (ℕ → Bool) → Form ℕ
+first ok = only-if number ok 18
 
 -- n coefficients or pixels, which stand at the front of a list then
 abbrev pub EachAt : {A : Type 0} → Form A → List ℕ → ℕ → ℕ → List A → Place → Type 0

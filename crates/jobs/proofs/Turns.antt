@@ -11,10 +11,12 @@ use lib.Seq.{drop-cons, take-at}
 use borrow.Author.Tests.{ne-eqb}
 use Rattle.whole.specs.Answers.{Answer}
 use Rattle.blockfile.specs.Form as Form
+use Rattle.blockfile.specs.Form.{only-if}
 use Rattle.blockfile.specs.Record.{Block, form}
-use Rattle.blockfile.specs.File.{refused-at, first, known}
+use Rattle.blockfile.specs.File.{refused-at, known}
 use Rattle.blockfile.specs.Inner.{Put, Took, Missed, block-of}
 use Rattle.blockfile.specs.declared.record.Head.{Head}
+use Rattle.blockfile.proofs.Writing.{put-none}
 use Rattle.text.specs.Text.{refused-line}
 use Rattle.jobs.specs.Task.{Written, both, nothing, Done, done, bad}
 use Rattle.jobs.specs.Steps.{Place, outset, before, Step, wrote, wanted, number, mind, ending, falling, opened, acting, came, step}
@@ -24,7 +26,7 @@ use Rattle.mend.specs.Mend.{range}
 use Rattle.mend.specs.Inner.{Mended}
 use Rattle.tally.proofs.Sanity.{sane-is}
 use Rattle.tally.proofs.Sums.{countable-done}
-use Rattle.jobs.specs.Act.{call-for, given, call, done-by, act, back, said, blocks}
+use Rattle.jobs.specs.Act.{call-for, given, call, left, done-by, said, blocks}
 use Rattle.jobs.specs.Salvage.{salvage}
 use Rattle.jobs.specs.Totalling.{summed, totalling}
 use Rattle.jobs.specs.Stepping.{is-totals, sane-for, Minds, written-in, mind-after, turn-of, LeftAt, Io, io, Stepped, StepAt, place-at}
@@ -39,10 +41,6 @@ pub put-both : {S : Type 0} (d : Step S) {s out err out′ err′ : List ℕ} {p
     → Put (written-in d .output) out put out′ end → Put (written-in d .error) err told err′ last → LeftAt s next d
     → Stepped d s (io out put err told out′ err′ (turn-of next end last d))
 put-both d {end = end} {last = last} next w l h = record { next = next; end = end; last = last; output = w; error = l; left = h; is = refl }
-
--- nothing was put
-pub put-none : {out : List ℕ} {put : ℕ} → put ≤ length out → Put [] out put out put
-put-none few = record { elements = refl; place = omega arith; room = few }
 
 -- ---- the end of a run
 
@@ -105,18 +103,18 @@ opening-is (Job.Totals most) v = refl
 -- the first number
 module _ {j : Job} {s : List ℕ} {at : ℕ} {last : Bool} {sums : List ℕ} where
   pub no-first : {k : ℕ} {x : Io} → Missed Form.number s at k → Fallen j k last 0 x → StepAt j outset s at last sums sums x
-  unfolding step first opened
+  unfolding step opened only-if
   no-first {k} e y = fallen-at k (rw e) y
 
   module _ {v next : ℕ} (t : Took Form.number s at v next) where
     pub unknown-first : {x : Io} → known v ≡ false → Refused j 0 18 x → StepAt j outset s at last sums sums x
-    unfolding step first opened falling
+    unfolding step opened only-if falling
     unknown-first e y = at-step _ (rw (t .read, e)) (λ h. (y (task-of j .start) s, h))
 
     pub known-first : known v ≡ true → {out err out′ : List ℕ} {put told end : ℕ} → told ≤ length err
         → Put (cond (is-totals j) [] (Form.number .write v)) out put out′ end
         → StepAt j outset s at last sums sums (io out put err told out′ err (Turn.Wrote v next end told))
-    unfolding step first opened
+    unfolding step opened only-if
     known-first e few w =
         let q = before v 1 (task-of j .start) in let d = wrote (both (cond (is-totals j) [] (Form.number .write v)) []) q (drop next s) in
         at-step d (rw (t .read, e) (ap (λ w. wrote w q (drop next s)) (opening-is j v)))
@@ -153,17 +151,19 @@ module _ {v : ℕ} {b : Block} {cs : List ℤ} {ps : List ℕ} {a : Answer} (y :
 
   module _ (i next : ℕ) where
     pub refused-block : {x : Io} → (k ≡ 0 → ⊥) → Refused Job.Blocks i k x → (sums : List ℕ) → DoneAt Job.Blocks v i b next sums sums x
-    unfolding blocks act back acting
-    refused-block h r sums = by-act Job.Blocks (λ m. bad k) (λ m. ap (back v) (refused-by _ h)) (λ m s inside g. (r m s, tt))
+    unfolding blocks acting
+    refused-block h r sums = by-act Job.Blocks (λ m. bad k) (λ m. refused-by _ h) (λ m s inside g. (r m s, tt))
 
     pub done-block : {out err out′ : List ℕ} {put told end : ℕ} → k ≡ 0 → told ≤ length err
         → Put (form 1 .write (block-of (b .head) cs ps)) out put out′ end
         → (sums : List ℕ) → DoneAt Job.Blocks v i b next sums sums (io out put err told out′ err (Turn.Wrote v next end told))
-    unfolding blocks act back acting form
-    done-block z few u sums =
-        let same = sym (λ i. done (block-of (b .head) (y .coefficients-left (sym n ∙ z) i) (y .pixels-left i))) in
-        by-act Job.Blocks (λ m. back v (done (block-of (b .head) cs ps))) (λ m. ap (back v) (done-as _ z ∙ same))
-        (λ m s inside g. (put-both _ next u (put-none few) (refl, inside), tt))
+    unfolding blocks acting form
+    done-block {out} {out′ = out′} {put = put} {end = end} z few u sums =
+        let same : block-of (b .head) cs ps ≡ left v b (call v b) =
+        (λ i. block-of (b .head) (y .coefficients-left (sym n ∙ z) i) (y .pixels-left i)) in
+        let w = subst (λ c. Put (form 1 .write c) out put out′ end) same u in
+        by-act Job.Blocks (λ m. done (tt, both (form v .write (left v b (call v b))) [])) (λ m. done-as _ z)
+        (λ m s inside g. (put-both _ next w (put-none few) (refl, inside), tt))
 
     pub refused-count : (most : ℕ) {x : Io} → (k ≡ 0 → ⊥) → (sums : List ℕ) → Refused (Job.Totals most) i k x
         → DoneAt (Job.Totals most) v i b next sums sums x

@@ -15,7 +15,7 @@ use Rattle.blockfile.specs.declared.record.Head.{Head}
 use Rattle.jobs.specs.Rows.{buffered, in-file}
 use Rattle.text.specs.Text.{refused-line}
 use Rattle.blockfile.specs.File.{End, here, refused-at}
-use Rattle.jobs.specs.Task.{Written, both, Done, done, bad, Task}
+use Rattle.jobs.specs.Task.{both, Done, done, bad, Task}
 
 -- what the record announces: r in version 2, else eob
 abbrev pub call-for : ℕ → Head → Call
@@ -37,16 +37,7 @@ done-by o a = cond (eqb (o .answer .number) 0) (done a) (bad (o .answer .number)
 abbrev pub left : ℕ → Block → Outcome → Block
 left v b o = record { head = b .head; coefficients = in-file v (b .head) (o .coefs); pixels = o .pixels }
 
-unfoldable pub act : ℕ → Block → Done Block
-unfolding done-by
-act v b = done-by (call v b) (left v b (call v b))
-
 -- ---- E1's and E11's program: "the file back with pixels done and coefficients as the call left them"; the refusal's line on standard error
-
-unfoldable pub back : ℕ → Done Block → Done (Unit {0} × Written)
-unfolding form
-back v (done b) = done (tt, both (form v .write b) [])
-back v (bad k) = bad k
 
 -- "standard error gets one line": of a refusal
 unfoldable pub said : End → List ℕ
@@ -55,11 +46,11 @@ said here = []
 said (refused-at i k) = refused-line i k
 
 unfoldable pub blocks : Task (Unit {0})
-unfolding act back said number
+unfolding done-by said number form
 blocks = record {
   past = λ i. false;
   start = tt;
   opening = λ v. both (number .write v) [];
-  act = λ v i s b. back v (act v b);
+  act = λ v i s b. done-by (call v b) (tt, both (form v .write (left v b (call v b))) []);
   closing = λ s e. both [] (said e);
 }

@@ -6,7 +6,8 @@ use Prim.Native.Nat.{ℕ, suc}
 use lib.Dec.{eqb}
 use Rattle.blockfile.specs.Read.{Read, got, refused}
 use Rattle.blockfile.specs.Record.{Block, form}
-use Rattle.blockfile.specs.File.{End, here, refused-at, first, known}
+use Rattle.blockfile.specs.File.{End, here, refused-at, known}
+use Rattle.blockfile.specs.Inner.{first}
 use Rattle.jobs.specs.Task.{Written, Done, done, bad, Task}
 
 -- before the first number; or before record i of a file of version v, with what is kept in mind
@@ -54,7 +55,7 @@ module _ {S : Type 0} (t : Task S) where
     came v i s (refused k) = falling (before v i s) k
 
     unfoldable pub step : Place S → List ℕ → Step S
-    unfolding opened came first form
+    unfolding opened came form
     step outset bs = opened (first known .read bs)
     step (before v i s) [] = cond last (ending (before v i s) here) wanted
     step (before v i s) (b ∷ bs) = cond (t .past i) (ending (before v i s) (refused-at i 22)) (came v i s (form v .read (b ∷ bs)))

@@ -5,7 +5,7 @@ use mathlib.Core.Bool.{Bool, cond}
 use mathlib.Core.List.{List, [], _∷_, _++_}
 use Prim.Native.Nat.{ℕ, suc}
 use Rattle.blockfile.specs.Record.{Block}
-use Rattle.blockfile.specs.File.{End, here, refused-at, File, unknown, file, read-blocks}
+use Rattle.blockfile.specs.File.{End, here, refused-at, File, unknown, file, read-file, known}
 
 -- the bytes on standard output and on standard error
 pub record Written : Type 0 where
@@ -61,5 +61,5 @@ module _ {S : Type 0} (t : Task S) where
 
   -- what the program writes of a whole input
   unfoldable pub run : List ℕ → Written
-  unfolding told-file read-blocks
-  run bs = told-file (read-blocks bs)
+  unfolding told-file read-file
+  run bs = told-file (read-file known bs)

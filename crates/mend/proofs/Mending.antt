@@ -16,15 +16,12 @@ use Rattle.whole.specs.Checks.{Check, accept, refuse}
 use Rattle.whole.specs.Lists.{at}
 use Rattle.whole.proofs.Clips.{clip-inside, clip-abs}
 use Rattle.blockfile.specs.Inner.{Put}
-use Rattle.blockfile.proofs.Writing.{put-then, put-length}
+use Rattle.blockfile.proofs.Writing.{put-then, put-length, put-none}
 use Rattle.text.specs.Text.{line}
 use Rattle.mend.specs.Mend.{moved, Change, changes, lines}
 use Rattle.mend.specs.Inner.{change, change-line}
 use Rattle.mend.specs.Inner.{reach, Mended}
 use Rattle.text.proofs.Texts.{decimal-short, signed-fits, signed-small, put-one}
-
-put-nothing : {e : List ℕ} {p : ℕ} → p ≤ length e → Put [] e p e p
-put-nothing h = record { elements = refl; place = omega arith; room = h }
 
 -- ---- a line, word by word
 
@@ -113,7 +110,7 @@ pub record Mending (m n : ℕ) (cs₀ : List ℤ) (e₀ : List ℕ) (told₀ : �
 module _ {m n : ℕ} {cs₀ : List ℤ} {e₀ : List ℕ} {told₀ : ℕ} where
   pub begin : told₀ + 46 * length cs₀ ≤ length e₀ → Mending m n cs₀ e₀ told₀ cs₀ e₀ told₀ 0
   unfolding lines
-  begin h = record { coefficients = refl; told = put-nothing (omega arith); count = omega arith; room = omega arith }
+  begin h = record { coefficients = refl; told = put-none (omega arith); count = omega arith; room = omega arith }
 
   module _ {cs : List ℤ} {e : List ℕ} {next i : ℕ} (k : Mending m n cs₀ e₀ told₀ cs e next i) where
     pub as-long : length cs ≡ length cs₀
@@ -159,7 +156,7 @@ module _ {m n : ℕ} {cs₀ : List ℤ} {e₀ : List ℕ} {told₀ : ℕ} where
       unfolding lines
       stays o =
           let kept : set cs i (moved m v) ≡ cs = ap (set cs i) (clip-inside v (low m) (high m) o ∙ sym here) ∙ set-getD cs i (pos 0) in
-          rw kept at (one-more {e′ = e} {next′ = next} (rw o (put-nothing (omega (arith, k .room)))) (omega arith))
+          rw kept at (one-more {e′ = e} {next′ = next} (rw o (put-none (omega (arith, k .room)))) (omega arith))
 
       pub moves : outside v (low m) (high m) ≡ true → {e′ : List ℕ} {next′ : ℕ} → Put (change-line n i v (moved m v)) e next e′ next′
           → length (change-line n i v (moved m v)) ≤ 46 → Mending m n cs₀ e₀ told₀ (set cs i (moved m v)) e′ next′ (i + 1)
@@ -176,4 +173,4 @@ by-range (refuse n i) is k = let z : _≡_ {A = ℕ} 0 1 = cc in absurd (omega a
 pub as-it-stands : (c : Check ℕ) → none ≡ reach c → (n : ℕ) (cs : List ℤ) {e : List ℕ} {at : ℕ} → at ≤ length e → Mended c n cs cs e at e at
 unfolding lines
 as-it-stands (accept m) is n cs h = let z : _≡_ {A = ℕ} 0 1 = cc in absurd (omega arith)
-as-it-stands (refuse k i) is n cs h = record { coefficients = refl; told = put-nothing h }
+as-it-stands (refuse k i) is n cs h = record { coefficients = refl; told = put-none h }

@@ -41,8 +41,7 @@ pub record Change : Type 0 where
 abbrev pub changes : ℕ → ℕ → List ℤ → List Change
 changes m i [] = []
 changes m i (v ∷ vs) =
-    let others = changes m (suc i) vs in
-    cond (outside v (low m) (high m)) (record { place = i; old = v; new = moved m v } ∷ others) others
+    cond (outside v (low m) (high m)) (record { place = i; old = v; new = moved m v } ∷ changes m (suc i) vs) (changes m (suc i) vs)
 
 -- "each such coefficient, and nothing else, moved"; "copied as it stands"
 abbrev pub mended : Check ℕ → List ℤ → List ℤ

@@ -3,7 +3,7 @@ use mathlib.Core.Path.{_≡_, refl}
 use mathlib.Core.Bool.{false}
 use mathlib.Core.List.{[], _∷_, _++_}
 use lib.ListN.{replicate}
-use Rattle.tally.specs.Totals.{totals, report}
+use Rattle.tally.specs.Totals.{distances, totals, report}
 use Rattle.tally.specs.Inner.{tallied}
 
 five-lines : report (totals (tallied (record { w = 4; h = 4; txtp = 0; depth = 8; announced = 0 }) false (replicate 16 100) (replicate 16 102) ∷ []))
@@ -12,5 +12,5 @@ five-lines : report (totals (tallied (record { w = 4; h = 4; txtp = 0; depth = 8
     ++ (99 ∷ 104 ∷ 97 ∷ 110 ∷ 103 ∷ 101 ∷ 32 ∷ 51 ∷ 50 ∷ 10 ∷ [])
     ++ (108 ∷ 97 ∷ 114 ∷ 103 ∷ 101 ∷ 115 ∷ 116 ∷ 32 ∷ 50 ∷ 10 ∷ [])
     ++ (52 ∷ 32 ∷ 52 ∷ 32 ∷ 48 ∷ 32 ∷ 49 ∷ 10 ∷ [])
-unfolding report
+unfolding report distances
 five-lines = refl

@@ -14,7 +14,7 @@ use lib.Seq.{take-suc, take-suc-set, take-all, drop-cons}
 use Rattle.whole.specs.Lists.{tab}
 use Rattle.whole.proofs.Counts.{tab-at, tab-ext}
 use Rattle.blockfile.specs.Inner.{Put}
-use Rattle.blockfile.proofs.Writing.{put-then, leaves}
+use Rattle.blockfile.proofs.Writing.{put-then, leaves, put-none}
 use Rattle.text.specs.Text.{decimal, line}
 use Rattle.tally.specs.Totals.{Tally, sum, greatest, distances, moves, Totals, totals, _⊕_, cell-w, cell-h, cell-type}
 use Rattle.tally.specs.Inner.{one-if, distance, cells}
@@ -29,11 +29,13 @@ use Rattle.tally.proofs.Sums.{sum-append, greatest-append, totals-appen
 -- ---- the distances of two lists of one length
 
 distances-length : (xs ys : List ℕ) → length xs ≡ length ys → length (distances xs ys) ≡ length xs
+unfolding distances
 distances-length [] ys e = refl
 distances-length (x ∷ xs) [] e = absurd (omega arith)
 distances-length (x ∷ xs) (y ∷ ys) e = ap suc (distances-length xs ys (omega arith))
 
 distances-at : (xs ys : List ℕ) (i : ℕ) → length xs ≡ length ys → getD (distances xs ys) i 0 ≡ distance (getD xs i 0) (getD ys i 0)
+unfolding distances
 distances-at [] [] i e = refl
 distances-at [] (y ∷ ys) i e = absurd (omega arith)
 distances-at (x ∷ xs) [] i e = absurd (omega arith)
@@ -238,7 +240,7 @@ number-short k n end h small = rw length-append (omega (arith, decimal-short k n
 -- a cell that was not met has no line, and another's has four numbers
 pub no-line : {s : List ℕ} {at : ℕ} (k : ℕ) {n : ℕ} → n ≡ 0 → at ≤ length s → Put (cell-line k n) s at s at
 unfolding cell-line
-no-line k {n} none h = rw (eq-eqb n 0 none) (record { elements = refl; place = omega arith; room = h })
+no-line k {n} none h = rw (eq-eqb n 0 none) (put-none h)
 
 pub cell-line-is : {s a b c f : List ℕ} {at p q o r : ℕ} (k : ℕ) {w h n : ℕ} → (n ≡ 0 → ⊥) → w ≡ cell-w k → h ≡ cell-h k
     → Put (decimal w ++ 32 ∷ []) s at a p → Put (decimal h ++ 32 ∷ []) a p b q → Put (decimal (cell-type k) ++ 32 ∷ []) b q c o
@@ -282,7 +284,7 @@ module _ (s out₀ : List ℕ) (at : ℕ) where
 
   pub begin-cells : at + 8160 ≤ length out₀ → Listing out₀ at 0
   unfolding cell-lines
-  begin-cells h = record { lines = record { elements = refl; place = omega arith; room = omega arith }; room = omega arith; count = omega arith }
+  begin-cells h = record { lines = put-none (omega arith); room = omega arith; count = omega arith }
 
   pub next-cell : {out out′ : List ℕ} {p r k : ℕ} → Listing out p k → k < 272 → getD s (4 + k) 0 < 10 ^ 20
       → Put (cell-line k (getD s (4 + k) 0)) out p out′ r → Listing out′ r (k + 1)

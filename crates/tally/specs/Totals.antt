@@ -1,6 +1,6 @@
 -- Totals over a file's records (E7): "Each total is defined from the list of records."
 use mathlib.Core.Bool.{Bool, cond, _&&_}
-use mathlib.Core.List.{List, [], _∷_, _++_}
+use mathlib.Core.List.{List, [], _∷_, _++_, foldr, zipWith}
 use Prim.Native.Nat.{ℕ, _+_, _-_, _*_, _/_, _%_, _^_, max}
 use lib.Dec.{eqb}
 use Rattle.whole.specs.Lists.{tab}
@@ -24,19 +24,16 @@ tally b o = record { head = b .head; mark = o .answer .mark; before = b .pixels;
 
 -- "their number", "how many", "the sum over all pixels"
 abbrev pub sum : {A : Type 0} → (A → ℕ) → List A → ℕ
-sum f [] = 0
-sum f (x ∷ xs) = f x + sum f xs
+sum f = foldr (λ x n. f x + n) 0
 
 -- "the greatest such distance (0 with no records)"
 abbrev pub greatest : {A : Type 0} → (A → ℕ) → List A → ℕ
-greatest f [] = 0
-greatest f (x ∷ xs) = max (f x) (greatest f xs)
+greatest f = foldr (λ x n. max (f x) n) 0
 
 -- "over all pixels .. the distance between before and after"
-abbrev pub distances : List ℕ → List ℕ → List ℕ
-distances [] bs = []
-distances (a ∷ xs) [] = []
-distances (a ∷ xs) (b ∷ bs) = ((a - b) + (b - a)) ∷ distances xs bs
+unfoldable pub distances : List ℕ → List ℕ → List ℕ
+unfolding zipWith
+distances = zipWith (λ a b. (a - b) + (b - a))
 
 -- a record's distances
 abbrev pub moves : Tally → List ℕ
@@ -94,8 +91,7 @@ cell-line k n = cond (eqb n 0) [] (line (decimal (cell-w k) ∷ decimal (cell-h 
 
 -- "one to a line": line after line
 abbrev pub joined : List (List ℕ) → List ℕ
-joined [] = []
-joined (l ∷ ls) = l ++ joined ls
+joined = foldr _++_ []
 
 -- "print, one to a line: "records" and their number, "marked" and how many had the mark, "change" and the sum .., "largest" and the greatest":
 -- these four, and what comes after them

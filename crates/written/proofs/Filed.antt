@@ -21,8 +21,8 @@ use Rattle.blockfile.proofs.Records.{plain}
 use Rattle.blockfile.proofs.Files.{ReadAs, reads, blocks-back, blocks-only}
 use Rattle.jobs.specs.Rows.{spread, gathered, buffered, in-file}
 use Rattle.jobs.specs.Task.{Written, both, ahead, Done, done, bad, begun, judged, told, told-file, run}
-use Rattle.jobs.specs.Act.{call-for, given, call, done-by, act, back, said, blocks}
-use Rattle.written.specs.Shown.{judged-block, acted-on, shown, shown-file}
+use Rattle.jobs.specs.Act.{call-for, given, call, left, done-by, said, blocks}
+use Rattle.written.specs.Shown.{act, judged-block, acted-on, shown, shown-file}
 use Rattle.written.specs.Rewrite.{as-one, SamePixels}
 use Rattle.written.proofs.Versions.{each-at, each-tab, zero-fits, fits-at, spread-fits, one-plain, all-mapped, same-pictures}
 
@@ -32,21 +32,23 @@ use Rattle.written.proofs.Versions.{each-at, each-tab, zero-fits, fits-
 abbrev later : ℕ → Records Block → Written
 later v m = both (write-each (form v) (m .0)) (said (m .1))
 
-told-next : (v i : ℕ) (d : Done Block) (m : Records Block) {w : Written} → w ≡ later v m
-    → judged blocks i tt (back v d) (λ s. w) ≡ later v (judged-block i d m)
-unfolding judged back blocks judged-block write-each said
-told-next v i (done b) m e = ap (ahead (both (form v .write b) [])) e
-told-next v i (bad k) m e = refl
+told-next : (v i k : ℕ) (b : Block) (m : Records Block) {w : Written} → w ≡ later v m → (t : Bool)
+    → judged blocks i tt (cond t (done (tt, both (form v .write b) [])) (bad k)) (λ s. w) ≡ later v (judged-block i (cond t (done b) (bad k)) m)
+unfolding judged blocks judged-block write-each said
+told-next v i k b m e true = ap (ahead (both (form v .write b) [])) e
+told-next v i k b m e false = refl
 
 told-is : (v i : ℕ) (bs : List Block) (e : End) → told blocks v i tt bs e ≡ later v (acted-on v i bs e)
-unfolding told begun blocks write-each acted-on
+unfolding told begun blocks write-each acted-on act done-by
 told-is v i [] here = refl
 told-is v i [] (refused-at j k) = refl
-told-is v i (b ∷ bs) e = told-next v i (act v b) (acted-on v (suc i) bs e) (told-is v (suc i) bs e)
+told-is v i (b ∷ bs) e =
+    let o = call v b in
+    told-next v i (o .answer .number) (left v b o) (acted-on v (suc i) bs e) (told-is v (suc i) bs e) (eqb (o .answer .number) 0)
 
 -- of every input
 pub blocks-run : (xs : List ℕ) → run blocks xs ≡ shown-file (read-blocks xs)
-unfolding run told-file shown-file shown blocks said write-blocks
+unfolding run told-file read-blocks shown-file shown blocks said write-blocks
 blocks-run xs = go (read-blocks xs)
   where
     go : (f : File) → told-file blocks f ≡ shown-file f

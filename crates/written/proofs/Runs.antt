@@ -1,19 +1,15 @@
 -- What becomes of a run by a step of the code: it goes on, waits, or is closed.
 use mathlib.Core.Path.{_≡_, refl, sym, ap, subst, _∙_}
-use mathlib.Core.Bool.{Bool, true, false, cond, _&&_, not}
-use mathlib.Core.List.{List, [], _∷_, _++_}
+use mathlib.Core.Bool.{Bool, true, false}
+use mathlib.Core.List.{List, _++_}
 use Prim.Native.Nat.{ℕ, zero, suc, _+_, _-_, _≤_, _<_}
 use native.Mathlib.Omega.{arith}
 use native.Mathlib.Numerals.{add-one}
-use lib.Dec.{eqb}
 use lib.ListN.{length, take, drop, replicate, length-take, length-drop}
-use Rattle.blockfile.specs.Read.{Read, got, refused}
-use Rattle.blockfile.specs.Record.{Block, form}
-use Rattle.blockfile.specs.File.{here, refused-at, first, known}
 use Rattle.blockfile.proofs.Writing.{put-length}
 use Rattle.tally.proofs.Tallies.{none-yet}
-use Rattle.jobs.specs.Task.{Written, ahead, Done, done, bad, Task}
-use Rattle.jobs.specs.Steps.{Place, outset, before, Step, wrote, wanted, closed, number, mind, ending, falling, opened, acting, came}
+use Rattle.jobs.specs.Task.{ahead}
+use Rattle.jobs.specs.Steps.{Place, before, Step, wrote, wanted, closed, number, mind}
 use Rattle.jobs.specs.Steps.{step}
 use Rattle.written.specs.Following.{remaining, Follows}
 use Rattle.jobs.specs.Totalling.{totalling}
@@ -26,45 +22,6 @@ use Rattle.jobs.specs.declared.step.Turn.{Turn}
 use Rattle.jobs.specs.declared.step.Turn.the-variants.{Wrote, Full, More, Stop}
 use Rattle.written.proofs.Streaming.{follows}
 use Rattle.written.proofs.Held.{Running, unchanged, stepped, closes}
-
--- ---- after a step that wrote, the next number follows
-
-abbrev NextTo : {S : Type 0} → Place S → Step S → Type 0
-NextTo {S} p (wrote w q rest) = (m : S) × (q ≡ before (version-of q) (suc (number p)) m)
-NextTo {S} p wanted = Unit {0}
-NextTo {S} p (closed w) = Unit {0}
-
-module _ {S : Type 0} (t : Task S) (last : Bool) where
-  next-falling : (p : Place S) (k : ℕ) → NextTo p (falling t last p k)
-  unfolding falling
-  next-falling p k = go (eqb k 15 && not last)
-    where
-      go : (b : Bool) → NextTo p (cond b wanted (ending t p (refused-at (number p) k)))
-      go true = tt
-      go false = tt
-
-  next-to : (p : Place S) (bs : List ℕ) → NextTo p (step t last p bs)
-  unfolding step opened came acting
-  next-to outset bs = go (first known .read bs)
-    where
-      go : (r : Read ℕ) → NextTo outset (opened t last r)
-      go (got v rest) = (t .start, refl)
-      go (refused k) = next-falling outset k
-  next-to (before v i s) [] = go last
-    where
-      go : (l : Bool) → NextTo (before v i s) (cond l (ending t (before v i s) here) wanted)
-      go true = tt
-      go false = tt
-  next-to (before v i s) (b ∷ bs) = go (t .past i) (form v .read (b ∷ bs))
-    where
-      by : (rest : List ℕ) (a : Done (S × Written)) → NextTo (before v i s) (acting t v i s rest a)
-      by rest (done a) = (a .0, refl)
-      by rest (bad k) = tt
-
-      go : (l : Bool) (r : Read Block) → NextTo (before v i s) (cond l (ending t (before v i s) (refused-at i 22)) (came t last v i s r))
-      go true r = tt
-      go false (got x rest) = by rest (t .act v i s x)
-      go false (refused k) = next-falling (before v i s) k
 
 number-at : {S : Type 0} (v i : ℕ) (m : S) → number (place-at v i m) ≡ i
 number-at v zero m = refl
@@ -104,15 +61,14 @@ module _ (j : Job) (v i : ℕ) (m : Mind j) {input output error : List ℕ} {at 
           → Minds j sums′ (mind-after (mind (task-of j) p) d) → After (turn-of (x .next) (x .end) (x .last) d)
       go (wrote w q rest) e x h =
           let g : Follows (task-of j) last p (drop at s) (wrote w q rest) = subst (Follows (task-of j) last p (drop at s)) e f in
-          let n : NextTo p (wrote w q rest) = subst (NextTo p) e (next-to (task-of j) last p (drop at s)) in
-          let next : q ≡ place-at (version-of q) (i + 1) (n .0) =
+          let n = g .1 in let next : q ≡ place-at (version-of q) (i + 1) (n .0) =
           n .1 ∙ ap (λ (k : ℕ). before (version-of q) (suc k) (n .0)) (number-at v i m)
           ∙ ap (λ (k : ℕ). place-at (version-of q) k (n .0)) (sym (add-one i)) in (
             n .0,
             (
               subst (Running (task-of j) input output′ error′ (x .next) have (x .end) (x .last) read sent said) next
                   (stepped (task-of j) r w (x .output) (x .error)
-                  (λ more. g more ∙ ap (λ (l : List ℕ). ahead w (remaining (task-of j) q (l ++ more))) (x .left .0))
+                  (λ more. g .0 more ∙ ap (λ (l : List ℕ). ahead w (remaining (task-of j) q (l ++ more))) (x .left .0))
                   (omega (arith, simp length-take at (x .left .1)))),
               subst (λ (k : ℕ). Minds j sums′ (mind (task-of j) (place-at (version-of q) k (n .0)))) (sym (add-one i))
                   (subst (λ (q : Place (Mind j)). Minds j sums′ (mind-at (mind (task-of j) p) q)) (n .1) h),

@@ -303,7 +303,7 @@ module _ (xs : List ℕ) (v : ℕ) (bs : List Block) where
   -- of a file that is read up to any end, that of a refused record too
   pub salvaged-part : (end : End) → read-blocks xs ≡ file v (bs, end)
       → run salvage xs ≡ both (write-blocks v (map mend bs)) (all-lines 1 bs ++ said end)
-  unfolding run told-file salvage write-blocks
+  unfolding run told-file read-blocks salvage write-blocks
   salvaged-part end e = ap (told-file salvage) e ∙ ap (ahead (both (number .write v) [])) (told-is v 1 bs end)
 
   -- and of one that is read to its end

@@ -9,7 +9,9 @@ use lib.ListN.{length}
 use borrow.Author.Tests.{eqb-true, eqb-false}
 use Rattle.blockfile.specs.Read.{Read, got, refused}
 use Rattle.blockfile.specs.Record.{Block, form}
-use Rattle.blockfile.specs.File.{here, refused-at, onward, records-in, records, first, known, read-file, read-blocks}
+use Rattle.blockfile.specs.File.{here, refused-at, onward, records-in, records, known, read-file}
+use Rattle.blockfile.specs.Form.{only-if}
+use Rattle.blockfile.specs.Inner.{first}
 use Rattle.blockfile.specs.File as File
 use Rattle.blockfile.proofs.Forms.{whole}
 use Rattle.blockfile.proofs.Rooms.{number-room, only-if-room}
@@ -36,14 +38,14 @@ module _ {S : Type 0} (t : Task S) where
 
   module _ (last : Bool) where
     at-first : (bs : List ℕ) → Follows t last outset bs (opened t last (first known .read bs))
-    unfolding opened remaining run read-blocks read-file File.opened told-file first
+    unfolding opened remaining run read-file File.opened told-file only-if
     at-first bs = go (first known .read bs) refl
       where
         few : (k : ℕ) → first known .read bs ≡ refused k → k ≡ 15 → length bs < 10265
         few k e q = let n = only-if-room known 18 5 (λ q. omega arith) number-room .enough bs (e ∙ ap refused q) in omega arith
 
         go : (r : Read ℕ) → first known .read bs ≡ r → Follows t last outset bs (opened t last r)
-        go (got v rest) e = λ more. rw (whole (first-lawful known) bs more v rest e)
+        go (got v rest) e = (λ more. rw (whole (first-lawful known) bs more v rest e), (t .start, refl))
         go (refused k) e = falls last outset bs k (λ q. (rw e, few k e q)) (λ h more. rw (first-lawful known .stays bs more k e h))
 
     module _ (v i : ℕ) (s : S) (b : ℕ) (bs : List ℕ) where
@@ -77,7 +79,8 @@ module _ {S : Type 0} (t : Task S) where
           where
             done-or : (r : Block) (rest : List ℕ) → form v .read (b ∷ bs) ≡ got r rest → (d : Done (S × Written)) → t .act v i s r ≡ d
                 → Follows t last (before v i s) (b ∷ bs) (acting t v i s rest d)
-            done-or r rest e (done a) q = λ more. is-got more r (rest ++ more) (whole (form-lawful v) (b ∷ bs) more r rest e) ∙ under _ ∙ rw q
+            done-or r rest e (done a) q =
+                (λ more. is-got more r (rest ++ more) (whole (form-lawful v) (b ∷ bs) more r rest e) ∙ under _ ∙ rw q, (a .0, refl))
             done-or r rest e (bad k) q = λ more end. is-got more r (rest ++ more) (whole (form-lawful v) (b ∷ bs) more r rest e) ∙ under _ ∙ rw q
 
             go : (r : Read Block) → form v .read (b ∷ bs) ≡ r → Follows t last (before v i s) (b ∷ bs) (came t last v i s r)

@@ -24,8 +24,8 @@ use Rattle.blockfile.specs.File.{End, Records}
 use Rattle.blockfile.proofs.Records.{both}
 use Rattle.jobs.specs.Rows.{spread}
 use Rattle.jobs.specs.Task.{done, bad}
-use Rattle.jobs.specs.Act.{given, call, left, done-by, act}
-use Rattle.written.specs.Shown.{judged-block, acted-on}
+use Rattle.jobs.specs.Act.{given, call, left, done-by}
+use Rattle.written.specs.Shown.{act, judged-block, acted-on}
 use Rattle.written.specs.Rewrite.{as-one, pictures}
 
 -- ---- a record of version 2 is its rewriting

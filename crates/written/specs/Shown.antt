@@ -5,7 +5,12 @@ use Rattle.text.specs.Text.{refused-line}
 use Rattle.blockfile.specs.Record.{Block}
 use Rattle.blockfile.specs.File.{End, refused-at, Records, File, unknown, file, write-blocks}
 use Rattle.jobs.specs.Task.{Written, both, Done, done, bad}
-use Rattle.jobs.specs.Act.{act, said}
+use Rattle.jobs.specs.Act.{call, left, done-by, said}
+
+-- the call is made on a record
+unfoldable pub act : ℕ → Block → Done Block
+unfolding done-by
+act v b = done-by (call v b) (left v b (call v b))
 
 -- the records that are left, up to a refusal of one of them, or to the end of the file
 unfoldable pub judged-block : ℕ → Done Block → Records Block → Records Block

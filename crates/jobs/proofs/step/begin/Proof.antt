@@ -7,7 +7,8 @@ use Rattle.blockfile.specs.Read.{refused}
 use Rattle.blockfile.specs.Form.{number}
 use Rattle.blockfile.specs.File.{known}
 use Rattle.blockfile.specs.Inner.{Took, NumberAt, number-refusal}
-use Rattle.jobs.proofs.Turns.{put-none, no-first, unknown-first, known-first}
+use Rattle.blockfile.proofs.Writing.{put-none}
+use Rattle.jobs.proofs.Turns.{no-first, unknown-first, known-first}
 use borrow.Author.Needs.{needs}
 use Rattle.jobs.proofs.step.begin.Statement.{statement}
 use Rattle.jobs.proofs.step.begin.Tie as tie
