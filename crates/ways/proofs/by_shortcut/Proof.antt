@@ -37,6 +37,7 @@ by-shortcut-spec = tie.close (tie.spec (λ c κs. search needs) (λ c. there (c 
       s .pre .sized,
       subst⁻¹ (λ (z : ℤ). natAbs z ≤ 524288)
           (toZ-ofZ w32 (at (s .args .coeff .now) 0) (record { sfits = c .first .given })) (s .pre .coefs .small 0 (area (s .pre))),
-    )) (λ c κs. shifting (begun (c .before) .pre) (small (c .before))) (λ c. there (begun (c .before .before .before .before) .pre)) (λ c. search needs)
-    (λ c. search needs) (λ c. let b = c .before .before in let o = b .before .before in
+    )) (λ c κs. shifting (begun (c .before) .pre) (small (c .before)))
+    (λ c. there (begun (c .before .before .before .before) .pre)) (λ c. search needs) (λ c. search needs)
+    (λ c. let b = c .before .before in let o = b .before .before in
     shortened (begun o .pre) (o .before .before .maximum .ensures) (number-is o) (b .shift-block .ensures)))

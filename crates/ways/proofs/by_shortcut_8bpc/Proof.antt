@@ -43,6 +43,7 @@ by-shortcut-8bpc-spec =
     (λ c κs. let s = start c in (
       s .pre .sized,
       subst⁻¹ (λ (z : ℤ). natAbs z ≤ 524288) (wide-is (at (s .args .coeff .now) 0) (read c)) (s .pre .coefs .small 0 (area (s .pre))),
-    )) (λ c κs. shifting (begun (c .before) .pre) (small (c .before))) (λ c. there (begun (c .before .before .before .before) .pre)) (λ c. search needs)
-    (λ c. search needs) (λ c. let b = c .before .before in let o = b .before .before in
+    )) (λ c κs. shifting (begun (c .before) .pre) (small (c .before)))
+    (λ c. there (begun (c .before .before .before .before) .pre)) (λ c. search needs) (λ c. search needs)
+    (λ c. let b = c .before .before in let o = b .before .before in
     shortened (begun o .pre) refl (number-is o) (b .shift-block-8bpc .ensures)))
