@@ -1,6 +1,7 @@
 // Runs a job from standard input to standard output and standard error, through buffers of fixed size. All reading, writing and waiting of the
 // programs is here.
-ghost use Prim.Native.Nat.{_≤_, _<_};
+ghost use mathlib.Core.Path.{_≡_};
+ghost use Prim.Native.Nat.{_+_, _^_, _≤_, _<_};
 ghost use lib.ListN.{length};
 ghost use Rattle.jobs.specs.Jobs.{task-of};
 ghost use Rattle.written.specs.Output.{Next, Last};
@@ -27,10 +28,16 @@ fn write_both(output: &[u8], error: &[u8]) -> bool {
     false
 }
 
-// Hands on what comes next of what the job writes, when so many bytes were read, sent to standard output and said on standard error.
-fn hand_on(job: Job, read: u64, sent: u64, said: u64, output: &[u8], error: &[u8]) -> bool
-    requires { ⌜ Next (task-of job) read sent said (now output) (now error) ⌝ }
+// Hands on what comes next of what the job writes, when so many bytes were read, sent to standard output and said on standard error; these two
+// counts grow by it.
+fn hand_on(job: Job, read: u64, sent: &mut u64, said: &mut u64, output: &[u8], error: &[u8]) -> bool
+    requires { ⌜ Next (task-of job) read (now sent) (now said) (now output) (now error)
+        × ((now sent + length (now output) < 2 ^ 64) × (now said + length (now error) < 2 ^ 64)) ⌝ }
+    ensures { λ _. ⌜ (now (sent .exit) ≡ now (sent .entry) + length (now (output .entry)))
+        × (now (said .exit) ≡ now (said .entry) + length (now (error .entry))) ⌝ }
 {
+    *sent += output.len() as u64;
+    *said += error.len() as u64;
     write_both(output, error)
 }
 
@@ -87,8 +94,7 @@ pub fn run(job: Job) {
     // Where the run stands: in a file of this version, before number `record`, 0 being the first number ..
     let mut version: u32 = 1;
     let mut record: u64 = 0;
-    // .. with so many bytes read and handed on to each stream. What is handed on has to come next after these counts, so they have to grow by all
-    // that was handed on, and once.
+    // .. with so many bytes read and handed on to each stream: what is handed on has to come next after these counts.
     let mut read: u64 = 0;
     let mut sent: u64 = 0;
     let mut said: u64 = 0;
@@ -131,11 +137,16 @@ pub fn run(job: Job) {
             Turn::Full => is_wanted = false,
             Turn::More => is_wanted = true,
         }
-        if !hand_on(job, read, sent, said, &output[..put], &error[..told]) {
+        if !hand_on(
+            job,
+            read,
+            &mut sent,
+            &mut said,
+            &output[..put],
+            &error[..told],
+        ) {
             return;
         }
-        sent += put as u64;
-        said += told as u64;
         put = 0;
         told = 0;
         if is_wanted {

@@ -1,6 +1,6 @@
 -- `drive::run` is safe and ends, and hands on what the job writes of its input, each part once and in its place. The measure is the number of turns
 -- that are left.
-use mathlib.Core.Path.{_≡_, subst}
+use mathlib.Core.Path.{_≡_, subst, subst⁻¹}
 use mathlib.Core.Bool.{true}
 use mathlib.Core.Logic.{⊎-elim}
 use mathlib.Core.List.{List}
@@ -92,16 +92,53 @@ few c h =
     let s = step3 c in ⊎-elim (λ w. let z : _≡_ {A = ℕ} 0 1 = cc in absurd (omega arith))
     (λ w. let m : Did s Turn.More = subst (Did s) (w .1 .given .1) (did s) in m .1 .1) (c .match .came)
 
--- what is held was moved to the front
+flushed-few : (c : tie.At-match-came Inv-loop μ-loop) → let l = top (step3 c) .loop in (l .put ≤ 32768) × (l .told ≤ 49152)
+flushed-few c = omega (arith, still c .0 .room, still c .0 .error-room, same-sizes (step3 c))
+
+hand-on-requires : tie.Need-hand-on-requires Inv-loop μ-loop
+hand-on-requires c κs =
+    let w = c .before .before .before .before in let s = step3 w in let l = top s .loop in let f = flushed-few w in (
+      next (task-of (top s .before .args .job)) (still w .0),
+      (simp length-take (omega (arith, l .inv .few, f)), simp length-take (omega (arith, l .inv .few, f))),
+    )
+
+-- what was held is handed on, and the counts have grown by it
+abbrev came : tie.After-hand-on Inv-loop μ-loop → tie.At-match-came Inv-loop μ-loop
+came h = h .before .before .before .before .before
+
+abbrev sent : tie.After-hand-on Inv-loop μ-loop → ℕ
+sent h = h .hand-on .last .1 .1 .0
+
+abbrev said : tie.After-hand-on Inv-loop μ-loop → ℕ
+said h = h .hand-on .last .1 .1 .1 .0
+
+grown : (h : tie.After-hand-on Inv-loop μ-loop) → let l = top (step3 (came h)) .loop in (sent h ≡ l .sent + l .put) × (said h ≡ l .said + l .told)
+grown h = let e = h .hand-on .ensures in (
+  omega (arith, simp length-take at (e .0), still (came h) .0 .room),
+  omega (arith, simp length-take at (e .1), still (came h) .0 .error-room),
+)
+
+handed : (h : tie.After-hand-on Inv-loop μ-loop) → let s = step3 (came h) in let l = top s .loop in
+    Running (task-of (top s .before .args .job)) (l .input) (out s) (err s) (l .at) (l .have) 0 0 (l .read) (sent h) (said h)
+    (place-at (l .version) (l .«record») (l .inv .thought))
+handed h =
+    let s = step3 (came h) in let l = top s .loop in let t = task-of (top s .before .args .job) in
+    let held : ℕ → ℕ → Type 0 = λ m n. Running t (l .input) (out s) (err s) (l .at) (l .have) 0 0 (l .read) m n
+    (place-at (l .version) (l .«record») (l .inv .thought)) in
+    subst⁻¹ (λ (m : ℕ). held m (said h)) (grown h .0) (subst⁻¹ (λ (n : ℕ). held (l .sent + l .put) n) (grown h .1) (flushed t (still (came h) .0)))
+
+-- what is left was moved to the front
+abbrev on : tie.After-to-front Inv-loop μ-loop → tie.After-hand-on Inv-loop μ-loop
+on c = c .before .before .before .before
+
 abbrev wanted : tie.After-to-front Inv-loop μ-loop → tie.At-match-came Inv-loop μ-loop
-wanted c = c .before .before .before .before .before .before .before
+wanted c = came (on c)
 
 moved : (c : tie.After-to-front Inv-loop μ-loop) → let s = step3 (wanted c) in let l = top s .loop in
     Running (task-of (top s .before .args .job)) (c .to-front .last .0) (out s) (err s) 0 (c .to-front .result) 0 0 (l .read)
-    (l .sent + l .put) (l .said + l .told) (place-at (l .version) (l .«record») (l .inv .thought))
+    (sent (on c)) (said (on c)) (place-at (l .version) (l .«record») (l .inv .thought))
 moved c =
-    let s = step3 (wanted c) in let t = task-of (top s .before .args .job) in
-    to-the-front t (flushed t (still (wanted c) .0)) (c .to-front .ensures .bytes) (c .to-front .ensures .count) (c .to-front .kept .0)
+    to-the-front (task-of (top (step3 (wanted c)) .before .args .job)) (handed (on c)) (c .to-front .ensures .bytes) (c .to-front .ensures .count) (c .to-front .kept .0)
 
 -- and more was read after it
 abbrev front : tie.After-fill Inv-loop μ-loop → tie.After-to-front Inv-loop μ-loop
@@ -154,10 +191,6 @@ add-read c =
     let n = subst (InBuffer _ _) (c .before .filled .given .1) (f .fill .ensures .inside) in
     omega (arith, n .0, n .1, top (step3 (wanted (front f))) .loop .inv .few, same-input f)
 
--- what was held was handed on, and nothing or so much more was read
-flushed-few : (c : tie.At-match-came Inv-loop μ-loop) → let l = top (step3 c) .loop in (l .put ≤ 32768) × (l .told ≤ 49152)
-flushed-few c = omega (arith, still c .0 .room, still c .0 .error-room, same-sizes (step3 c))
-
 loop-again-2 : tie.Need-loop-again-2 Inv-loop μ-loop
 loop-again-2 c =
     let f = c .before .before .before .before in let w = wanted (front f) in
@@ -166,7 +199,7 @@ loop-again-2 c =
       thought = l .inv .thought;
       runs = filled (task-of (top s .before .args .job)) (moved (front f)) (f .fill .ensures .kept) (n .0) (n .1);
       minds = still w .1;
-      few = omega (arith, l .inv .few, n .0, n .1, same-input f, flushed-few w);
+      few = omega (arith, l .inv .few, n .0, n .1, same-input f, flushed-few w, grown (on (front f)));
       input-size = same-input f;
       sizes = same-sizes s;
     }
@@ -178,18 +211,18 @@ loop-again-3 c =
       runs = as-before (task-of (top s .before .args .job)) (moved (front f)) (f .fill .ensures .kept)
           (omega (arith, moved (front f) .inside, f .fill .kept));
       minds = still w .1;
-      few = omega (arith, l .inv .few, flushed-few w);
+      few = omega (arith, l .inv .few, flushed-few w, grown (on (front f)));
       input-size = same-input f;
       sizes = same-sizes s;
     }
 
 loop-again-4 : tie.Need-loop-again-4 Inv-loop μ-loop
 loop-again-4 c =
-    let w = c .before .before .before .before .before in let s = step3 w in let l = top s .loop in record {
+    let h = c .before .before in let w = came h in let s = step3 w in let l = top s .loop in record {
       thought = l .inv .thought;
-      runs = flushed (task-of (top s .before .args .job)) (still w .0);
+      runs = handed h;
       minds = still w .1;
-      few = omega (arith, l .inv .few, flushed-few w);
+      few = omega (arith, l .inv .few, flushed-few w, grown h);
       input-size = l .inv .input-size;
       sizes = same-sizes s;
     }
@@ -204,10 +237,9 @@ run-spec =
     (λ c. omega (arith, last (c .before) .1 .0, same-sizes (step2 (c .before))))
     (λ c. simp length-take (omega (arith, last (c .before .before) .1 .0, same-sizes (step2 (c .before .before)))))
     (λ c κs. last (c .before .before) .1 .1) (λ c. search needs) (λ c. search needs) (λ c. search needs) (λ c. search needs)
-    (λ c. simp length-take (omega (arith, still (c .before) .0 .room))) (λ c. search needs)
-    (λ c. simp length-take (omega (arith, still (c .before .before) .0 .error-room)))
-    (λ c κs. next (task-of (top (step3 (c .before .before)) .before .args .job)) (still (c .before .before) .0))
-    (λ c. search needs) (λ c. search needs) (λ c. search needs) (λ c. search needs) (λ c κs. search needs)
+    (λ c. simp length-take (omega (arith, still (c .before .before .before) .0 .room))) (λ c. search needs)
+    (λ c. simp length-take (omega (arith, still (c .before .before .before .before) .0 .error-room)))
+    hand-on-requires (λ c. search needs) (λ c. search needs) (λ c κs. search needs)
     (λ c. search needs) fill-requires (λ c. search needs) sub-read add-read (λ c. search needs) loop-again-2
     (λ c. search needs) (λ c. search needs) loop-again-3 (λ c. search needs) (λ c κs. search needs)
     (λ c. search needs) (λ c. search needs) loop-again-4 (λ c. search needs))
