@@ -7,4 +7,5 @@ use Rattle.itx_1d.specs.Inner.{Limited}
 use Rattle.bitdepth.proofs.Ends.{Reach, size}
 
 pub limited : {m : ℕ} → Reach m → (k : Kind) → Limited k (low m) (high m)
-limited g k t = record { low-is = ap low (sym (size g)); high-is = ap high (sym (size g)); small = subst⁻¹ (λ (n : ℕ). n ≤ 524288) (size g) (g .small) }
+limited g k t =
+    record { low-is = ap low (sym (size g)); high-is = ap high (sym (size g)); small = subst⁻¹ (λ (n : ℕ). n ≤ 524288) (size g) (g .small) }

@@ -18,8 +18,8 @@ module _ {S : Type 0} (t : Task S) where
   remaining (before v i s) bs = told t v i s (records (form v) i bs .0) (records (form v) i bs .1)
 
   -- The bytes at hand are bs, and `more` is yet to come. What was written is the first of what is left to write, the bytes that are
-  -- left go on with what comes, and the next number follows; more bytes are wanted only before the last, and where fewer are there than a record can take; and what
-  -- closes a run is all that is left, if nothing comes after the last.
+  -- left go on with what comes, and the next number follows; more bytes are wanted only before the last, and where fewer are there than a
+  -- record can take; and what closes a run is all that is left, if nothing comes after the last.
   abbrev pub Follows : Bool → Place S → List ℕ → Step S → Type 0
   Follows last p bs (wrote w q rest) = ((more : List ℕ) → remaining p (bs ++ more) ≡ ahead w (remaining q (rest ++ more)))
       × ((s : S) × (q ≡ before (version-of q) (suc (number p)) s))

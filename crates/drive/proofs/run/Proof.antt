@@ -138,7 +138,8 @@ moved : (c : tie.After-to-front Inv-loop μ-loop) → let s = step3 (wanted c) i
     Running (task-of (top s .before .args .job)) (c .to-front .last .0) (out s) (err s) 0 (c .to-front .result) 0 0 (l .read)
     (sent (on c)) (said (on c)) (place-at (l .version) (l .«record») (l .inv .thought))
 moved c =
-    to-the-front (task-of (top (step3 (wanted c)) .before .args .job)) (handed (on c)) (c .to-front .ensures .bytes) (c .to-front .ensures .count) (c .to-front .kept .0)
+    to-the-front (task-of (top (step3 (wanted c)) .before .args .job)) (handed (on c))
+    (c .to-front .ensures .bytes) (c .to-front .ensures .count) (c .to-front .kept .0)
 
 -- and more was read after it
 abbrev front : tie.After-fill Inv-loop μ-loop → tie.After-to-front Inv-loop μ-loop
