@@ -30,6 +30,7 @@ pub record Block : Type 0 where
   pub coefs : List ℤ
   pub plane : Plane
 
+-- the block that a call is given
 abbrev pub block : ℕ → ℕ → ℕ → ℕ → List ℤ → Plane → Block
 block w h type depth coefs plane = record { w = w; h = h; type = type; depth = depth; coefs = coefs; plane = plane }
 
