@@ -26,12 +26,14 @@ use Rattle.mend.specs.Mend.{range}
 use Rattle.mend.specs.Inner.{Mended}
 use Rattle.tally.proofs.Sanity.{sane-is}
 use Rattle.tally.proofs.Sums.{countable-done}
-use Rattle.jobs.specs.Act.{call-for, given, call, left, done-by, said, blocks}
+use Rattle.act.specs.Act.{call-for, given, call}
+use Rattle.jobs.specs.Blocks.{left, done-by, said, blocks}
 use Rattle.jobs.specs.Salvage.{salvage}
 use Rattle.jobs.specs.Totalling.{summed, totalling}
 use Rattle.jobs.specs.Stepping.{is-totals, sane-for, Minds, written-in, mind-after, turn-of, LeftAt, Io, io, Stepped, StepAt, place-at}
 use Rattle.jobs.specs.Jobs.{Mind, task-of}
-use Rattle.jobs.specs.Inner.{Acted, DoneAt, Refused, Fallen, Ended}
+use Rattle.act.specs.Inner.{Acted}
+use Rattle.jobs.specs.Inner.{DoneAt, Refused, Fallen, Ended}
 use Rattle.jobs.specs.declared.step.Job.{Job}
 use Rattle.jobs.specs.declared.step.Job.the-variants as Job
 use Rattle.jobs.specs.declared.step.Turn.the-variants as Turn

@@ -1,16 +1,13 @@
 -- What the code answers, in terms of the definitions: places of slices instead of lists of bytes.
 use mathlib.Core.Path.{_≡_}
-use mathlib.Core.Bool.{Bool, true}
+use mathlib.Core.Bool.{Bool}
 use mathlib.Core.List.{List}
 use Prim.Native.Nat.{ℕ, _+_, _≤_}
 use lib.IntN.{ℤ}
 use lib.ListN.{length, drop}
-use Rattle.whole.specs.Answers.{Answer}
-use Rattle.blockfile.specs.Inner.{block-of}
-use Rattle.blockfile.specs.Record.{Block, sized, announces, count}
+use Rattle.blockfile.specs.Record.{Block}
 use Rattle.blockfile.specs.declared.record.Head.{Head}
-use Rattle.jobs.specs.Rows.{in-file}
-use Rattle.jobs.specs.Act.{call}
+use Rattle.act.specs.Inner.{Ready}
 use Rattle.blockfile.specs.File.{here, refused-at}
 use Rattle.jobs.specs.Steps.{Place, closed, number, falling, acting}
 use Rattle.jobs.specs.declared.step.Job.{Job}
@@ -19,23 +16,11 @@ use Rattle.jobs.specs.Stepping.{Minds, Io, Stepped, mind-after}
 
 -- ---- a record
 
--- what is known of a record of version v that was read
-pub record Ready (v : ℕ) (h : Head) (coefficients : List ℤ) : Type 0 where
-  pub size : sized (h .w, h .h) ≡ true
-  pub allowed : announces v (h .h) (h .announced) ≡ true
-  pub counted : length coefficients ≡ count v h
-
--- and that its pixels were read too
+-- what is known of a record of version v that was read, pixels and all
 pub record Whole (v : ℕ) (h : Head) (coefficients : List ℤ) (pixels : List ℕ) : Type 0 where
   pub ready : Ready v h coefficients
   pub few : length coefficients ≤ 1024
   pub few-pixels : length pixels ≤ 1024
-
--- the call was made: its answer, what it left of the pixels, and if it was accepted of the coefficients, in the file's order
-pub record Acted (v : ℕ) (h : Head) (cs : List ℤ) (ps : List ℕ) (cs′ : List ℤ) (ps′ : List ℕ) (a : Answer) : Type 0 where
-  pub answer : a ≡ call v (block-of h cs ps) .answer
-  pub pixels-left : ps′ ≡ call v (block-of h cs ps) .pixels
-  pub coefficients-left : a .number ≡ 0 → cs′ ≡ in-file v h (call v (block-of h cs ps) .coefs)
 
 -- ---- a step
 

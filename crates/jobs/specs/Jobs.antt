@@ -2,7 +2,7 @@
 use mathlib.Core.List.{List}
 use Rattle.tally.specs.Totals.{Tally}
 use Rattle.jobs.specs.Task.{Task}
-use Rattle.jobs.specs.Act.{blocks}
+use Rattle.jobs.specs.Blocks.{blocks}
 use Rattle.jobs.specs.Salvage.{salvage}
 use Rattle.jobs.specs.Totalling.{totalling}
 use Rattle.jobs.specs.declared.step.Job.{Job}

@@ -6,7 +6,7 @@ use Rattle.blockfile.specs.Form.{number}
 use Rattle.blockfile.specs.Record.{form}
 use Rattle.mend.specs.Mend.{mend, changes-of, lines}
 use Rattle.jobs.specs.Task.{both, done, Task}
-use Rattle.jobs.specs.Act.{said}
+use Rattle.jobs.specs.Blocks.{said}
 
 unfoldable pub salvage : Task (Unit {0})
 unfolding form lines said number

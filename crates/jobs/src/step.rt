@@ -5,7 +5,6 @@ ghost use mathlib.Core.List.{List};
 ghost use Prim.Native.Nat.{ℕ, _+_, _≤_};
 ghost use lib.Dec.{leb};
 ghost use lib.ListN.{length};
-ghost use Rattle.blockfile.specs.File.{known};
 ghost use Rattle.jobs.specs.Steps.{outset, before};
 ghost use Rattle.jobs.specs.declared.step.Job.the-variants as Job;
 ghost use Rattle.tally.specs.Inner.{Sane};
@@ -13,7 +12,8 @@ ghost use Rattle.blockfile.specs.Inner.{block-of};
 ghost use Rattle.jobs.specs.Inner.{Whole, Roomy, Refused, Fallen, Ended, DoneAt};
 ghost use Rattle.jobs.specs.Stepping.{is-totals, sane-for, io, StepAt, place-at, roomy, Turned};
 ghost use Rattle.jobs.specs.Jobs.{Mind, task-of};
-use crate::act::act;
+use act::act;
+use blockfile::is_known;
 use blockfile::number;
 use blockfile::number::Number;
 use blockfile::number::read_number;
@@ -134,13 +134,6 @@ fn is_past(job: Job, record: u64) -> bool
         Job::Salvage => false,
         Job::Totals(most) => (most as u64) < record,
     }
-}
-
-// Which first numbers there are.
-fn is_known(version: u32) -> bool
-    ensures { λ r. ⌜ r ≡ known version ⌝ }
-{
-    (version == 1) | (version == 2)
 }
 
 // The first number.

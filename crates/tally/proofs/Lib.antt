@@ -1,5 +1,4 @@
 -- Laws of E7.
-pub mod Tabs
 pub mod Sums
 pub mod Tallies
 pub mod Sanity

@@ -12,7 +12,7 @@ use lib.ListN.{length, take, drop, getD, set, replicate, length-set, length-appe
 use lib.Pow.{pow-mono}
 use lib.Seq.{take-suc, take-suc-set, take-all, drop-cons}
 use Rattle.whole.specs.Lists.{tab}
-use Rattle.whole.proofs.Counts.{tab-at, tab-ext}
+use Rattle.whole.proofs.Counts.{tab-at, tab-ext, set-tab}
 use Rattle.blockfile.specs.Inner.{Put}
 use Rattle.blockfile.proofs.Writing.{put-then, leaves, put-none}
 use Rattle.text.specs.Text.{decimal, line}
@@ -22,7 +22,6 @@ use Rattle.tally.specs.Totals.{in-cell, cell-line, joined, headed, repor
 use Rattle.tally.specs.Inner.{sums-of}
 use Rattle.tally.specs.Inner.{Paired, Kept}
 use Rattle.tally.specs.Inner.{cell-lines, CellOf, Measured}
-use Rattle.tally.proofs.Tabs.{set-tab}
 use Rattle.text.proofs.Texts.{decimal-short}
 use Rattle.tally.proofs.Sums.{sum-append, greatest-append, totals-append, one-cell}
 

@@ -7,7 +7,7 @@ use Prim.Native.Nat.{ℕ, zero, suc, _+_, _-_, _≤_, _<_}
 use native.Mathlib.Omega.{arith}
 use borrow.Author.Tests.{ltb-true, ltb-false}
 use lib.Dec.{ltb}
-use lib.ListN.{getD, length, replicate, drop, length-append, length-drop, List·getD-append}
+use lib.ListN.{getD, set, length, replicate, drop, length-append, length-drop, List·getD-append}
 use lib.Seq.{getD-append-add, getD-drop}
 use Rattle.whole.specs.Lists.{tab, any, first, one-more}
 use Rattle.whole.proofs.Clips.{either, or-false}
@@ -18,6 +18,16 @@ use Rattle.whole.proofs.Clips.{either, or-false}
 pub tab-ext {ℓ} : {A : Type ℓ} (n : ℕ) (f g : ℕ → A) → ((i : ℕ) → i < n → f i ≡ g i) → tab n f ≡ tab n g
 tab-ext zero f g e = refl
 tab-ext (suc n) f g e = ap₂ (λ x xs. x ∷ xs) (e zero (omega arith)) (tab-ext n (λ i. f (suc i)) (λ i. g (suc i)) (λ i h. e (suc i) (omega arith)))
+
+-- a store to a list that is given by its elements
+pub set-tab : {A : Type 0} (n : ℕ) (f g : ℕ → A) (k : ℕ) → k < n → ((i : ℕ) → i < n → (i ≡ k → ⊥) → f i ≡ g i)
+    → set (tab n f) k (g k) ≡ tab n g
+set-tab zero f g k h e = absurd (omega arith)
+set-tab (suc n) f g zero h e =
+    ap (λ l. g zero ∷ l) (tab-ext n (λ i. f (suc i)) (λ i. g (suc i)) (λ i l. e (suc i) (omega arith) (λ q. omega arith)))
+set-tab (suc n) f g (suc k) h e =
+    ap₂ (λ x l. x ∷ l) (e zero (omega arith) (λ q. omega arith))
+    (set-tab n (λ i. f (suc i)) (λ i. g (suc i)) k (omega arith) (λ i l q. e (suc i) (omega arith) (λ s. q (omega arith))))
 
 pub tab-length : {A : Type 0} (n : ℕ) (f : ℕ → A) → length (tab n f) ≡ n
 tab-length zero f = refl

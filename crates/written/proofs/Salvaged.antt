@@ -42,9 +42,10 @@ use Rattle.blockfile.specs.declared.record.Head.{Head}
 use Rattle.blockfile.specs.File.{End, here, refused-at, file, read-blocks, write-blocks}
 use Rattle.blockfile.proofs.Forms.{each-length}
 use Rattle.blockfile.proofs.Files.{blocks-back, blocks-only}
-use Rattle.jobs.specs.Rows.{spread, buffered}
+use Rattle.act.specs.Rows.{spread, buffered}
 use Rattle.jobs.specs.Task.{Written, both, ahead, begun, told, told-file, run}
-use Rattle.jobs.specs.Act.{call-for, given, call, said}
+use Rattle.act.specs.Act.{call-for, given, call}
+use Rattle.jobs.specs.Blocks.{said}
 use Rattle.mend.specs.Mend.{planned, range, moved, mended, mend, changes-of, before9, InRange, PixelsLow, lines, all-lines}
 use Rattle.jobs.specs.Salvage.{salvage}
 use Rattle.written.specs.Salvaged.{pixels-line}

@@ -22,9 +22,10 @@ use Rattle.blockfile.specs.Form.{Each}
 use Rattle.blockfile.specs.Record.{Block, count, Plain}
 use Rattle.blockfile.specs.File.{End, Records}
 use Rattle.blockfile.proofs.Records.{both}
-use Rattle.jobs.specs.Rows.{spread}
+use Rattle.act.specs.Rows.{spread}
 use Rattle.jobs.specs.Task.{done, bad}
-use Rattle.jobs.specs.Act.{given, call, left, done-by}
+use Rattle.act.specs.Act.{given, call}
+use Rattle.jobs.specs.Blocks.{left, done-by}
 use Rattle.written.specs.Shown.{act, judged-block, acted-on}
 use Rattle.written.specs.Rewrite.{as-one, pictures}
 

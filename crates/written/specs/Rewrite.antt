@@ -4,7 +4,7 @@ use mathlib.Core.List.{List, map}
 use Prim.Native.Nat.{ℕ}
 use Rattle.blockfile.specs.Record.{Block}
 use Rattle.blockfile.specs.File.{here, Records, file, read-blocks}
-use Rattle.jobs.specs.Rows.{spread}
+use Rattle.act.specs.Rows.{spread}
 use Rattle.jobs.specs.Task.{Written}
 
 -- the same block with eob 1 and all of its w·h coefficients, in buffer order

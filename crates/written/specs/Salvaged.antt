@@ -6,7 +6,7 @@ use Rattle.levels.specs.declared.Plan.{Plan}
 use Rattle.strided.specs.Planes.{lies}
 use Rattle.checks.specs.Table.{pixel-line}
 use Rattle.blockfile.specs.Record.{Block}
-use Rattle.jobs.specs.Act.{given}
+use Rattle.act.specs.Act.{given}
 
 -- number 21 of a record as the call is given it
 abbrev pub pixels-line : ℕ → Block → Line (Plan × Depth)

@@ -1,6 +1,6 @@
 -- `step::is_past` meets its contract.
 use mathlib.Core.Path.{sym, ap}
-use Rattle.jobs.specs.Act.{blocks}
+use Rattle.jobs.specs.Blocks.{blocks}
 use Rattle.jobs.specs.Salvage.{salvage}
 use Rattle.jobs.specs.Totalling.{totalling}
 use Rattle.jobs.specs.Jobs.{task-of}

@@ -1,13 +1,13 @@
--- `act::act_plain` meets its contract: the view and eob are those of the definition.
+-- `act_plain` meets its contract: the view and eob are those of the definition.
 use Prim.Native.Nat.{_≤_}
 use native.Mathlib.Omega.{arith}
 use mir.Syntax.{w32}
 use mir.ValLaws.{toZ-pos}
 use borrow.Author.Tests.{leb-true}
-use Rattle.jobs.proofs.Acts.{narrow, acted-plain}
+use Rattle.act.proofs.Acts.{narrow, acted-plain}
 use borrow.Author.Needs.{needs}
-use Rattle.jobs.proofs.act.act_plain.Statement.{statement}
-use Rattle.jobs.proofs.act.act_plain.Tie as tie
+use Rattle.act.proofs.act_plain.Statement.{statement}
+use Rattle.act.proofs.act_plain.Tie as tie
 
 small : (c : tie.Start) → c .args .head .announced ≤ 2147483647
 small c = leb-true (c .args .head .announced) 2147483647 (c .pre .allowed)

@@ -1,4 +1,4 @@
--- `act::act_live` meets its contract: the block has room in the array.
+-- `act_live` meets its contract: the block has room in the array.
 use mathlib.Core.Path.{_≡_, refl, ap}
 use mathlib.Core.List.{List, _∷_}
 use Prim.Native.Nat.{ℕ, zero, suc, _≤_}
@@ -8,8 +8,8 @@ use lib.ListN.{take, replicate, length-take}
 use Rattle.blockfile.specs.Record.{area}
 use Rattle.blockfile.proofs.Records.{area-most}
 use borrow.Author.Needs.{needs}
-use Rattle.jobs.proofs.act.act_live.Statement.{statement}
-use Rattle.jobs.proofs.act.act_live.Tie as tie
+use Rattle.act.proofs.act_live.Statement.{statement}
+use Rattle.act.proofs.act_live.Tie as tie
 
 take-zeros : (m n : ℕ) → m ≤ n → take m (replicate n (pos 0)) ≡ replicate m (pos 0)
 take-zeros zero n l = refl

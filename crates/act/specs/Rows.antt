@@ -1,11 +1,9 @@
 -- The file's order of coefficients, and the buffer's. "then come only rows 0 to r-1, row by row" (E11).
 use mathlib.Core.Bool.{cond}
 use mathlib.Core.List.{List}
-use mathlib.Core.Path.{_≡_}
-use Prim.Native.Nat.{ℕ, _+_, _*_, _/_, _%_, _≤_, _<_}
+use Prim.Native.Nat.{ℕ, _+_, _*_, _/_, _%_}
 use lib.Dec.{eqb, ltb}
 use lib.IntN.{ℤ, pos}
-use lib.ListN.{length}
 use Rattle.whole.specs.Lists.{at, tab}
 use Rattle.blockfile.specs.declared.record.Head.{Head}
 
@@ -22,12 +20,3 @@ buffered v h cs = cond (eqb v 2) (spread (h .w) (h .h) (h .announced) cs) cs
 
 abbrev pub in-file : ℕ → Head → List ℤ → List ℤ
 in-file v h cs = cond (eqb v 2) (gathered (h .w) (h .h) (h .announced) cs) cs
-
--- the first r rows of w by h stand in `rows`, and nothing else does
-pub record Live (rows : List ℤ) (w h r : ℕ) : Type 0 where
-  pub wide : 0 < w
-  pub high : 0 < h
-  pub within : r ≤ h
-  pub all : length rows ≡ r * w
-  pub few : length rows ≤ 1024
-  pub area : w * h ≤ 1024

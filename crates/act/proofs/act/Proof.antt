@@ -1,4 +1,4 @@
--- `act::act` meets its contract: a version is 2 or is read as 1.
+-- `act` meets its contract: a version is 2 or is read as 1.
 use mathlib.Core.Path.{_≡_, sym, subst}
 use mathlib.Core.List.{List}
 use Prim.Native.Nat.{ℕ}
@@ -6,11 +6,11 @@ use lib.IntN.{ℤ}
 use borrow.Author.Tests.{ne-eqb}
 use Rattle.whole.specs.Answers.{Answer}
 use Rattle.blockfile.specs.declared.record.Head.{Head}
-use Rattle.jobs.specs.Inner.{Ready, Acted}
-use Rattle.jobs.proofs.Acts.{ready-1, acted-1}
+use Rattle.act.specs.Inner.{Ready, Acted}
+use Rattle.act.proofs.Acts.{ready-1, acted-1}
 use borrow.Author.Needs.{needs}
-use Rattle.jobs.proofs.act.act.Statement.{statement}
-use Rattle.jobs.proofs.act.act.Tie as tie
+use Rattle.act.proofs.act.Statement.{statement}
+use Rattle.act.proofs.act.Tie as tie
 
 ready : {u v : ℕ} {h : Head} {cs : List ℤ} → u ≡ v → Ready u h cs → Ready v h cs
 ready {h} {cs} e r = subst (λ (v : ℕ). Ready v h cs) e r

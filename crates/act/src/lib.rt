@@ -1,13 +1,13 @@
 // What the program of E1 and E11 does with a record.
 ghost use mathlib.Core.Path.{_≡_};
-ghost use Prim.Native.Nat.{_≤_};
+ghost use Prim.Native.Nat.{_*_, _≤_};
 ghost use lib.IntN.{pos};
 ghost use lib.ListN.{replicate};
 ghost use Rattle.strided.specs.Planes.{whole};
 ghost use Rattle.itx.specs.Answers.{answer-of};
 ghost use Rattle.blockfile.specs.Record.{area};
-ghost use Rattle.jobs.specs.Inner.{Ready, Acted};
-use crate::rows::spread;
+ghost use Rattle.act.specs.Inner.{Live, Ready, Acted};
+ghost use Rattle.act.specs.Rows as Rows;
 use blockfile::record::Head;
 use coefs::clear;
 use itx::Answer;
@@ -40,6 +40,25 @@ fn act_plain(head: Head, coefficients: &mut [i32], pixels: &mut [u16]) -> Answer
     let depth = head.depth as usize;
     let eob = head.announced as i32;
     inv_txfm_add(pixels, view_of(head), coefficients, eob, w, h, txtp, depth)
+}
+
+// Lays the first r rows, which stand row by row in `rows`, into a block of w by h zeros, column by column.
+fn spread(rows: &[i32], w: usize, h: usize, r: usize, block: &mut [i32])
+    requires { ⌜ Live (now rows) w h r × (now block ≡ replicate (w * h) (pos 0)) ⌝ }
+    ensures { λ _. ⌜ now (block .exit) ≡ Rows.spread w h r (now (rows .entry)) ⌝ }
+{
+    let mut y = 0;
+    let mut x = 0;
+    let mut j = 0;
+    while j < rows.len() {
+        block[y + x * h] = rows[j];
+        x += 1;
+        if x == w {
+            x = 0;
+            y += 1;
+        }
+        j += 1;
+    }
 }
 
 // The live-row call on version 2's rows, which are laid into `block`. It leaves zeros, and so do their rows.

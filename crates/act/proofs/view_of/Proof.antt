@@ -1,11 +1,11 @@
--- `act::view_of` meets its contract.
+-- `view_of` meets its contract.
 use Prim.Native.Nat.{_*_}
 use native.Mathlib.Omega.{arith}
 use mir.Syntax.{w32}
 use mir.ValLaws.{toZ-pos}
 use borrow.Author.Needs.{needs}
-use Rattle.jobs.proofs.act.view_of.Statement.{statement}
-use Rattle.jobs.proofs.act.view_of.Tie as tie
+use Rattle.act.proofs.view_of.Statement.{statement}
+use Rattle.act.proofs.view_of.Tie as tie
 
 returns : tie.Need-returns
 returns c =

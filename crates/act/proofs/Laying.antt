@@ -1,4 +1,4 @@
--- What the loop of `rows::spread` keeps: the elements so far are laid, and the next one's row and column are at hand.
+-- What the loop of `spread` keeps: the elements so far are laid, and the next one's row and column are at hand.
 use mathlib.Core.Path.{_≡_, refl, sym, ap, _∙_}
 use mathlib.Core.Bool.{Bool, true, false, cond}
 use mathlib.Core.List.{List, [], _∷_}
@@ -13,9 +13,9 @@ use lib.IntN.{ℤ, pos}
 use lib.ListN.{length, replicate, set, take}
 use lib.Seq.{getD-take, take-all}
 use Rattle.whole.specs.Lists.{at}
-use Rattle.whole.proofs.Counts.{tab-ext, tab-length, replicate-tab}
-use Rattle.tally.proofs.Tabs.{set-tab}
-use Rattle.jobs.specs.Rows.{Live, spread}
+use Rattle.whole.proofs.Counts.{tab-ext, tab-length, replicate-tab, set-tab}
+use Rattle.act.specs.Inner.{Live}
+use Rattle.act.specs.Rows.{spread}
 
 -- one more element changes no other
 take-other : (cs : List ℤ) (j i : ℕ) → (i ≡ j → ⊥) → at (take j cs) i ≡ at (take (suc j) cs) i

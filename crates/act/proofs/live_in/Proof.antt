@@ -1,11 +1,11 @@
--- `act::live_in` meets its contract.
+-- `live_in` meets its contract.
 use mathlib.Core.Path.{_∙_}
 use native.Mathlib.Omega.{arith}
-use Rattle.jobs.specs.Rows.{Live}
-use Rattle.jobs.proofs.Acts.{narrow, acted-live, live-rows, cleared}
+use Rattle.act.specs.Inner.{Live}
+use Rattle.act.proofs.Acts.{narrow, acted-live, live-rows, cleared}
 use borrow.Author.Needs.{needs}
-use Rattle.jobs.proofs.act.live_in.Statement.{statement}
-use Rattle.jobs.proofs.act.live_in.Tie as tie
+use Rattle.act.proofs.live_in.Statement.{statement}
+use Rattle.act.proofs.live_in.Tie as tie
 
 rows : (c : tie.Start) → Live (c .args .coefficients .now) (c .args .head .w) (c .args .head .h) (c .args .head .announced)
 rows c = live-rows (c .pre .0)

@@ -1,4 +1,4 @@
--- `rows::spread` meets its contract: the invariant is `Laying`.
+-- `spread` meets its contract: the invariant is `Laying`.
 use mathlib.Core.Path.{sym, _∙_}
 use mathlib.Core.Logic.{⊎-elim}
 use Prim.Native.Nat.{_+_, _-_, _*_, _≤_, _<_}
@@ -8,9 +8,9 @@ use lib.ListN.{length}
 use mir.Syntax.{w32}
 use mir.ValLaws.{toZ-ofZ}
 use Rattle.whole.specs.Lists.{at}
-use Rattle.jobs.proofs.Laying.{Laying, begin, as-long, finish, cell, next-row, next-column}
-use Rattle.jobs.proofs.rows.spread.Statement.{statement}
-use Rattle.jobs.proofs.rows.spread.Tie as tie
+use Rattle.act.proofs.Laying.{Laying, begin, as-long, finish, cell, next-row, next-column}
+use Rattle.act.proofs.spread.Statement.{statement}
+use Rattle.act.proofs.spread.Tie as tie
 
 abbrev Inv-loop : tie.InvT-loop
 Inv-loop rows w h r block₀ y₀ x₀ j₀ block y x j = Laying rows w h r block y x j

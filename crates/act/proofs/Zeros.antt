@@ -17,7 +17,7 @@ use Rattle.itx.specs.Calls.{outcome-of, outcome}
 use Rattle.ways.proofs.Painting.{zeros-at}
 use Rattle.itx.proofs.Numbers.{refusal-number}
 use Rattle.checks.proofs.Verdicts.{accepted-by}
-use Rattle.jobs.specs.Rows.{gathered}
+use Rattle.act.specs.Rows.{gathered}
 
 pub left-zero : (b : Block) (r : ℕ) → length (b .coefs) ≡ b .w * b .h → outcome (live r) b .answer .number ≡ 0
     → (i : ℕ) → at (outcome (live r) b .coefs) i ≡ pos 0
