@@ -20,10 +20,9 @@ use Rattle.blockfile.specs.declared.record.Head.{Head}
 use Rattle.levels.proofs.Sizes.{side-bounds}
 use Rattle.blockfile.proofs.Records.{both, sides, area-most, count-most, sides-most}
 use Rattle.act.specs.Rows.{spread, gathered}
-use Rattle.act.specs.Inner.{Live}
+use Rattle.act.specs.Inner.{Live, Acted, Ready}
 use Rattle.act.specs.Act.{call}
 use Rattle.blockfile.specs.Inner.{block-of}
-use Rattle.act.specs.Inner.{Acted, Ready}
 use Rattle.act.proofs.Zeros.{left-zero, gathered-zero}
 
 pub narrow : {v : ℕ} {h : Head} {cs : List ℤ} → Ready v h cs → h .w ≤ 32

@@ -13,8 +13,8 @@ use Rattle.whole.proofs.Clips.{or-false, by-test}
 use Rattle.whole.proofs.Counts.{tab-ext, any-none, none-of-any}
 use Rattle.levels.specs.Sides.{side}
 use Rattle.whole.specs.Answers.{acceptance}
-use Rattle.itx_1d.specs.Passes.{av1-pass}
-use Rattle.itx_1d.proofs.PassLaws.{pass-av1}
+use Rattle.passes.specs.Passes.{av1-pass}
+use Rattle.passes.proofs.PassLaws.{pass-av1}
 use Rattle.bitdepth.specs.declared.Depth.{Depth}
 use Rattle.bitdepth.specs.Depths.{row-range, column-range, maximum}
 use Rattle.levels.specs.declared.Plan.{Plan}

@@ -2,7 +2,7 @@
 use mathlib.Core.Path.{_≡_, refl}
 use mathlib.Core.List.{List, [], _∷_, map}
 use Rattle.whole.specs.Numbers as Numbers
-use Rattle.itx_1d.specs.Passes as Passes
+use Rattle.passes.specs.Passes as Passes
 use Rattle.itx_1d.specs.Calls as Calls
 use Rattle.residual.specs.Blocks as Blocks
 use Rattle.pixels.specs.Adds as Adds

@@ -19,8 +19,8 @@ use Rattle.whole.proofs.Ranges.{zero-inside, scaled-inside, rounded-twice, roun
 use Rattle.levels.specs.Sides.{side}
 use Rattle.levels.specs.declared.Kind.the-variants.{Dct}
 use Rattle.whole.specs.Answers.{acceptance}
-use Rattle.itx_1d.specs.Passes.{Passed, pass}
-use Rattle.itx_1d.proofs.PassLaws.{only, dc-pass}
+use Rattle.passes.specs.Passes.{Passed, pass}
+use Rattle.passes.proofs.PassLaws.{only, dc-pass}
 use Rattle.bitdepth.specs.declared.Depth.{Depth}
 use Rattle.bitdepth.specs.declared.Depth.the-variants.{Eight, Ten, Twelve}
 use Rattle.bitdepth.specs.Depths.{row-range, column-range, maximum}

@@ -19,7 +19,7 @@ use Rattle.levels.specs.declared.Kind.{Kind}
 use Rattle.levels.specs.declared.Kind.the-variants.{Wht}
 use Rattle.levels.specs.Manners.{is-wht, four-only}
 use Rattle.whole.specs.Answers.{Answer, acceptance}
-use Rattle.itx_1d.specs.Inner.{Lined}
+use Rattle.passes.specs.Inner.{Lined}
 use Rattle.levels.proofs.Manners.{wht-alone}
 use Rattle.bitdepth.specs.declared.Depth.{Depth}
 use Rattle.bitdepth.specs.Depths.{row-range}

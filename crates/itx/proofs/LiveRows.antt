@@ -2,7 +2,7 @@
 use mathlib.Core.Path.{_≡_, refl, sym, ap, ap₂, _∙_, subst}
 use mathlib.Core.Bool.{Bool, false, cond, _||_}
 use mathlib.Core.List.{List, _++_}
-use Prim.Native.Nat.{ℕ, zero, suc, _*_, _≤_, _<_, _+_}
+use Prim.Native.Nat.{ℕ, zero, suc, _*_, _≤_, _<_}
 use native.Mathlib.Nat.{div-eq-of-lt}
 use native.Mathlib.Omega.{arith}
 use borrow.Author.Tests.{ltb-false, lt-ltb}
@@ -16,9 +16,9 @@ use Rattle.whole.proofs.Counts.{tab-ext, any-ext, any-upto}
 use Rattle.whole.proofs.Ranges.{zero-inside}
 use Rattle.levels.specs.Sides.{Side, side, len}
 use Rattle.levels.specs.declared.Kind.{Kind}
-use Rattle.itx_1d.specs.Passes.{Passed}
+use Rattle.passes.specs.Passes.{Passed}
 use Rattle.levels.proofs.Manners.{split}
-use Rattle.itx_1d.proofs.PassLaws.{zeros, zero-pass, zero-unmarked, pass-av1}
+use Rattle.passes.proofs.PassLaws.{zeros, zero-pass, zero-unmarked, pass-av1}
 use Rattle.bitdepth.specs.declared.Depth.{Depth}
 use Rattle.bitdepth.specs.Depths.{row-range, column-range, maximum}
 use Rattle.levels.specs.declared.Plan.{Plan}

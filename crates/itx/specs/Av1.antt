@@ -5,7 +5,7 @@ use lib.Dec.{eqb}
 use lib.IntN.{ℤ, pos, _*ℤ_}
 use Rattle.whole.specs.Numbers.{_>>_, round2, clip, low, high}
 use Rattle.levels.specs.Sides.{side}
-use Rattle.itx_1d.specs.Passes.{av1-pass}
+use Rattle.passes.specs.Passes.{av1-pass}
 use Rattle.bitdepth.specs.declared.Depth.{Depth}
 use Rattle.bitdepth.specs.Depths.{bit-depth}
 use Rattle.levels.specs.declared.Plan.{Plan}

@@ -1,7 +1,6 @@
 // The two-dimensional transform of src/itx.rs: the plain call and the live-row call, of both engines and both widths.
 ghost use mathlib.Core.Path.{_≡_};
 ghost use mathlib.Core.Bool.{false};
-ghost use Prim.Native.Nat.{_*_};
 ghost use lib.ListN.{length};
 ghost use Rattle.strided.specs.Planes.{spot, lent, lent-8};
 ghost use Rattle.levels.specs.Plans as Plans;

@@ -25,13 +25,14 @@ use Rattle.levels.specs.declared.Kind.{Kind}
 use Rattle.levels.specs.declared.Kind.the-variants.{Dct, Wht}
 use Rattle.itx_1d.specs.declared.Pass.{Pass}
 use Rattle.itx_1d.specs.declared.Pass.the-variants.{Done}
-use Rattle.itx_1d.specs.Passes.{Passed, pass}
+use Rattle.passes.specs.Passes.{Passed, pass, taken, put}
 use Rattle.whole.specs.Answers.{Outcome, acceptance, outcome-of}
-use Rattle.itx_1d.specs.Calls.{taken, put, is-range, bad-range, accepted, ranged, halved, unranged, Meets}
-use Rattle.itx_1d.specs.Inner.{after, range-check, place-check, element-check, read, Seen, Ranged, Made, looked, called}
+use Rattle.itx_1d.specs.Calls.{is-range, bad-range, accepted, ranged, halved, unranged, Meets}
+use Rattle.itx_1d.specs.Inner.{after, range-check, place-check, element-check, called}
+use Rattle.passes.specs.Inner.{read, Seen, Ranged, Made, looked}
 use Rattle.itx_1d.proofs.Pass.{the-type}
 use Rattle.itx_1d.proofs.Checks.{is-done, refuse}
-use Rattle.itx_1d.proofs.Strides.{in-reach}
+use Rattle.passes.proofs.Strides.{in-reach}
 
 -- the four tests, as the code puts them and as the definition does
 abbrev pub verdict : Bool → Bool → Bool → Option ℕ → Pass

@@ -17,11 +17,11 @@ use Rattle.whole.specs.Lists.{at, tab, first}
 use Rattle.whole.proofs.Counts.{tab-ext, tab-at, first-ext, first-upto, last-or-less}
 use Rattle.levels.specs.Sides.{Side, len}
 use Rattle.levels.specs.declared.Kind.the-variants.{Dct}
-use Rattle.itx_1d.specs.Passes.{Passed, pass, filled, lower}
+use Rattle.passes.specs.Passes.{Passed, pass, filled, lower, taken, put}
 use Rattle.whole.specs.Answers.{Outcome, acceptance}
-use Rattle.itx_1d.specs.Calls.{taken, put, bad-range, accepted, ranged, halved, refilled, leaving}
+use Rattle.itx_1d.specs.Calls.{bad-range, accepted, ranged, halved, refilled, leaving}
 use Rattle.itx_1d.proofs.Accepted.{defined, zero-inside}
-use Rattle.itx_1d.proofs.Strides.{in-reach, length-put, kept, put-at}
+use Rattle.passes.proofs.Strides.{in-reach, length-put, kept, put-at}
 
 -- ---- what was put is put again
 

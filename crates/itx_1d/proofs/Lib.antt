@@ -1,10 +1,5 @@
--- Laws of the passes.
-pub mod Most
-pub mod PassLaws
-pub mod Strides
-pub mod Through
+-- Laws of the public passes.
 pub mod Checks
 pub mod Accepted
 pub mod Half
 pub mod Unique
-pub mod Wht

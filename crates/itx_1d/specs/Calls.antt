@@ -2,16 +2,16 @@
 use mathlib.Core.Bool.{Bool, not, cond, _&&_, _||_}
 use mathlib.Core.List.{List}
 use mathlib.Core.Path.{_≡_}
-use Prim.Native.Nat.{ℕ, zero, suc, _*_, _-_, _/_}
+use Prim.Native.Nat.{ℕ, _*_, _-_, _/_}
 use lib.Dec.{eqb, leb}
 use lib.IntN.{ℤ, natAbs}
-use lib.ListN.{length, set}
+use lib.ListN.{length}
 use Rattle.whole.specs.Numbers.{same, outside, low, high}
-use Rattle.whole.specs.Lists.{at, tab, first}
+use Rattle.whole.specs.Lists.{at, first}
 use Rattle.whole.specs.Checks.{Check, accept, unless, unless-at}
 use Rattle.whole.specs.Answers.{Answer, refusal, acceptance, Outcome, outcome-of}
 use Rattle.levels.specs.Sides.{Side, of4, len}
-use Rattle.itx_1d.specs.Passes.{Passed, pass, filled, lower}
+use Rattle.passes.specs.Passes.{Passed, pass, filled, lower, taken, put}
 use Rattle.levels.specs.declared.Kind.{Kind}
 use Rattle.levels.specs.declared.Kind.the-variants.{Dct, Wht}
 use Rattle.itx_1d.specs.declared.Pass.{Pass}
@@ -23,14 +23,6 @@ answer-of Range = refusal 11 0
 answer-of Stride = refusal 12 0
 answer-of Short = refusal 13 0
 answer-of (Element i) = refusal 14 i
-
--- "A pass works on elements 0, s, 2s, .. of a lent slice": the n that it takes, and the slice with the first k of its values put back
-abbrev pub taken : List ℤ → ℕ → ℕ → List ℤ
-taken c s n = tab n (λ i. at c (i * s))
-
-unfoldable pub put : List ℤ → ℕ → List ℤ → ℕ → List ℤ
-put c s vs zero = c
-put c s vs (suc k) = set (put c s vs k) (k * s) (at vs k)
 
 -- number 11: "range not -m..m-1 with m 32768, 131072 or 524288"
 abbrev pub is-range : ℤ → ℤ → ℕ → Bool

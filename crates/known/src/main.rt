@@ -1,6 +1,5 @@
 // Runs the calls that standard input lists, a line each: document 01's known results and those of the requests, and both sides of every number of the
 // table. Writes each line again, with number, place and mark of the answer and what the call left.
-ghost use mathlib.Core.Path.{_≡_};
 ghost use Prim.Native.Nat.{_≤_};
 ghost use lib.ListN.{length};
 

@@ -16,8 +16,8 @@ use Rattle.whole.proofs.Parts.{rep-self, rep-mul, abs-parts}
 use Rattle.whole.proofs.Ranges.{shift-floor, not-outside}
 use Rattle.levels.specs.Sides.{of4}
 use Rattle.levels.specs.declared.Kind.the-variants.{Wht}
-use Rattle.itx_1d.specs.Passes.{wht, pass}
-use Rattle.itx_1d.proofs.PassLaws.{pass-small}
+use Rattle.passes.specs.Passes.{wht, pass}
+use Rattle.passes.proofs.PassLaws.{pass-small}
 use Rattle.bitdepth.specs.declared.Depth.{Depth}
 use Rattle.bitdepth.specs.declared.Depth.the-variants.{Eight, Ten, Twelve}
 use Rattle.bitdepth.specs.Depths.{row-range, maximum}

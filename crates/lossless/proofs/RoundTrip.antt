@@ -25,7 +25,7 @@ use Rattle.strided.proofs.Rows.{columns-in, rows-in}
 use Rattle.residual.specs.Blocks.{way, row, column, residual, shortcut}
 use Rattle.residual.specs.Inner.{wht-plan}
 use Rattle.pixels.specs.Adds.{add-pixel}
-use Rattle.itx_1d.specs.Passes.{pass}
+use Rattle.passes.specs.Passes.{pass}
 use Rattle.whole.specs.Answers.{Answer, acceptance}
 use Rattle.checks.specs.Table.{Block, plain, short}
 use Rattle.itx.specs.Calls.{outcome}

@@ -11,7 +11,7 @@ use Rattle.whole.specs.Lists.{at, tab, first}
 use Rattle.whole.specs.Checks.{Check, accept, then, unless, unless-at}
 use Rattle.bitdepth.specs.declared.Depth.{Depth}
 use Rattle.bitdepth.specs.Depths.{depth, maximum}
-use Rattle.itx_1d.specs.Passes.{wht}
+use Rattle.passes.specs.Passes.{wht}
 use Rattle.whole.specs.Answers.{Answer, refusal, acceptance, Outcome, outcome-of}
 use Rattle.strided.specs.Planes.{Plane}
 use Rattle.checks.specs.Table.{Block, block}

@@ -1,5 +1,4 @@
 // A pass: kind, n, stride, m, length and the elements in; number, place, mark and the elements out.
-ghost use mathlib.Core.Path.{_≡_};
 ghost use Prim.Native.Nat.{_*_, _≤_};
 ghost use lib.ListN.{length};
 use words::bits;

@@ -3,7 +3,7 @@ use mathlib.Core.Path.{sym, ap, subst⁻¹}
 use Prim.Native.Nat.{ℕ, _≤_}
 use Rattle.whole.specs.Numbers.{low, high}
 use Rattle.levels.specs.declared.Kind.{Kind}
-use Rattle.itx_1d.specs.Inner.{Limited}
+use Rattle.passes.specs.Inner.{Limited}
 use Rattle.bitdepth.proofs.Ends.{Reach, size}
 
 pub limited : {m : ℕ} → Reach m → (k : Kind) → Limited k (low m) (high m)

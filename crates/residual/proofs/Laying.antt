@@ -13,8 +13,8 @@ use Rattle.whole.specs.Lists.{at}
 use Rattle.whole.proofs.Counts.{last-or-less}
 use Rattle.levels.specs.Sides.{len, side}
 use Rattle.av1.proofs.Sides.{of-length}
-use Rattle.itx_1d.specs.Inner.{revs, source}
-use Rattle.itx_1d.proofs.Strides.{source-at, at-most-32}
+use Rattle.passes.specs.Inner.{revs, source}
+use Rattle.passes.proofs.Strides.{source-at, at-most-32}
 use Rattle.residual.specs.Inner.{Filled, Laid}
 
 -- bits in reverse order, twice

@@ -14,11 +14,10 @@ use lib.Seq.{getD-take, getD-drop, length-take-le, getD-append-add}
 use Rattle.whole.specs.Lists.{at, tab}
 use Rattle.whole.proofs.Counts.{tab-ext}
 use Rattle.levels.specs.Sides.{len, side}
-use Rattle.itx_1d.specs.Passes.{Passed}
-use Rattle.itx_1d.specs.Calls.{taken, put}
-use Rattle.itx_1d.specs.Inner.{Passable, Made}
+use Rattle.passes.specs.Passes.{Passed, taken, put}
+use Rattle.passes.specs.Inner.{Passable, Made}
 use Rattle.residual.specs.Inner.{Filled}
-use Rattle.itx_1d.proofs.Strides.{length-put, kept, put-at, not-0}
+use Rattle.passes.proofs.Strides.{length-put, kept, put-at, not-0}
 
 -- the part of t from x on
 abbrev pub part : List ℤ → ℕ → List ℤ

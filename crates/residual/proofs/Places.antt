@@ -4,7 +4,7 @@ use Prim.Native.Nat.{ℕ, suc, _+_, _*_, _%_, _≤_, _<_}
 use native.Mathlib.Nat.{mul-le-mul-right, mul-le-mul, le-trans, add-mul-mod-self-right, mod-eq-of-lt}
 use native.Mathlib.Omega.{arith}
 use Rattle.levels.specs.declared.Plan.{Plan}
-use Rattle.itx_1d.proofs.Strides.{at-most-32}
+use Rattle.passes.proofs.Strides.{at-most-32}
 use Rattle.residual.specs.Inner.{Sized}
 
 -- row y, column x, column by column and row by row

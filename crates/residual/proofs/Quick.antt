@@ -21,10 +21,10 @@ use Rattle.lanes.proofs.Lanes.{lane-at}
 use Rattle.lanes.proofs.Chain.{parted}
 use Rattle.av1.proofs.Tail.{below, run-length, run-front, hits-front}
 use Rattle.levels.specs.declared.Kind.the-variants.{Dct}
-use Rattle.itx_1d.specs.Passes.{pass}
-use Rattle.itx_1d.specs.Inner.{source, gathered, Ranged}
-use Rattle.itx_1d.proofs.Strides.{source-at, odd-high, at-most-32}
-use Rattle.itx_1d.proofs.Through.{value-is, mark-is, ends-of}
+use Rattle.passes.specs.Passes.{pass}
+use Rattle.passes.specs.Inner.{source, gathered, Ranged}
+use Rattle.passes.proofs.Strides.{source-at, odd-high, at-most-32}
+use Rattle.passes.proofs.Through.{value-is, mark-is, ends-of}
 use Rattle.residual.specs.Inner.{Laid, Quickly}
 use Rattle.residual.proofs.Laying.{back}
 

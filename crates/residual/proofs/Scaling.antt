@@ -10,8 +10,8 @@ use Rattle.whole.specs.Lists.{at, tab}
 use Rattle.whole.proofs.Counts.{tab-at, any-none}
 use Rattle.levels.specs.Sides.{side}
 use Rattle.levels.specs.declared.Kind.the-variants.{Identity}
-use Rattle.itx_1d.specs.Passes.{identity, pass}
-use Rattle.itx_1d.proofs.PassLaws.{identity-at}
+use Rattle.passes.specs.Passes.{identity, pass}
+use Rattle.passes.proofs.PassLaws.{identity-at}
 use Rattle.levels.specs.declared.Plan.{Plan}
 use Rattle.residual.specs.Inner.{Filled, loaded, Holds, RowsAre, ColumnsAre}
 use Rattle.residual.proofs.Places.{by-row}
@@ -19,11 +19,11 @@ use Rattle.residual.proofs.Steps.{rows-are}
 
 -- one element of a line
 line-at : (n k m : ℕ) (f : ℕ → ℤ) (i : ℕ) → i < k → at (pass Identity (side n) m (tab k f) .values) i ≡ identity (side n) (f i)
-unfolding Rattle.itx_1d.specs.Passes.pass
+unfolding Rattle.passes.specs.Passes.pass
 line-at n k m f i l = identity-at (side n) (tab k f) i ∙ ap (identity (side n)) (tab-at k f (pos 0) i l)
 
 no-mark : (n m : ℕ) (xs : List ℤ) → pass Identity (side n) m xs .mark ≡ false
-unfolding Rattle.itx_1d.specs.Passes.pass
+unfolding Rattle.passes.specs.Passes.pass
 no-mark n m xs = refl
 
 pub scaled-rows : {p : Plan} {m r : ℕ} {c t u : List ℤ} → p .rows ≡ Identity → Holds (p .w) r (loaded p c) t

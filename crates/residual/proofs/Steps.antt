@@ -13,8 +13,8 @@ use Rattle.lanes.proofs.Swept.{any-more}
 use Rattle.levels.specs.Sides.{len, side}
 use Rattle.levels.specs.declared.Kind.{Kind}
 use Rattle.levels.specs.declared.Plan.{Plan}
-use Rattle.itx_1d.specs.Passes.{Passed, pass}
-use Rattle.itx_1d.specs.Inner.{Passable, Made}
+use Rattle.passes.specs.Passes.{Passed, pass}
+use Rattle.passes.specs.Inner.{Passable, Made}
 use Rattle.residual.specs.declared.Engine.{Engine}
 use Rattle.residual.specs.Blocks.{passed-by}
 use Rattle.residual.specs.Inner.{Filled, HoldsIn, loaded, row-by, row-made, RowsAreIn, RowsAre, column-by, Columned, ColumnsAreIn}

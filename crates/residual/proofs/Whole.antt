@@ -2,7 +2,7 @@
 use mathlib.Core.Path.{_≡_, refl, sym, ap, ap₂, _∙_, subst, subst⁻¹}
 use mathlib.Core.Bool.{Bool, true, false, cond, _||_}
 use mathlib.Core.List.{List}
-use Prim.Native.Nat.{ℕ, zero, _+_, _*_, _/_, _%_, _≤_, _<_}
+use Prim.Native.Nat.{ℕ, _+_, _*_, _/_, _%_, _≤_, _<_}
 use native.Mathlib.Nat.{le-trans, div-add-mod', div-lt-iff-lt-mul, mod-lt, mul-le-mul-right}
 use native.Mathlib.Omega.{arith}
 use borrow.Author.Tests.{ltb-true, ltb-false}
@@ -16,14 +16,14 @@ use Rattle.av1.proofs.Zeros.{at-tab}
 use Rattle.levels.specs.Sides.{Side, side}
 use Rattle.levels.specs.declared.Kind.{Kind}
 use Rattle.levels.specs.declared.Kind.the-variants.{Wht}
-use Rattle.itx_1d.specs.Passes.{Passed, av1-pass}
+use Rattle.passes.specs.Passes.{Passed, av1-pass}
 use Rattle.levels.specs.Manners.{is-wht}
 use Rattle.spec_engine.proofs.Sizes as Spec-sizes
-use Rattle.itx_1d.specs.Inner.{most}
+use Rattle.passes.specs.Inner.{most}
 use Rattle.levels.proofs.Manners.{split, wht-alone}
-use Rattle.itx_1d.proofs.Most.{at-most}
-use Rattle.itx_1d.proofs.PassLaws.{pass-small}
-use Rattle.itx_1d.proofs.Strides.{not-0}
+use Rattle.passes.proofs.Most.{at-most}
+use Rattle.passes.proofs.PassLaws.{pass-small}
+use Rattle.passes.proofs.Strides.{not-0}
 use Rattle.bitdepth.specs.declared.Depth.{Depth}
 use Rattle.bitdepth.specs.declared.Depth.the-variants.{Eight, Ten, Twelve}
 use Rattle.bitdepth.specs.Depths.{row-range, column-range}

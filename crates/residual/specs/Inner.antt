@@ -12,15 +12,14 @@ use Rattle.whole.specs.Lists.{at, tab, any}
 use Rattle.levels.specs.Sides.{len, side}
 use Rattle.levels.specs.declared.Kind.{Kind}
 use Rattle.levels.specs.declared.Kind.the-variants.{Dct, Wht}
-use Rattle.itx_1d.specs.Passes.{Passed}
-use Rattle.levels.specs.Manners.{is-wht}
-use Rattle.itx_1d.specs.Inner.{revs, source, most, Lined, Limited}
+use Rattle.passes.specs.Passes.{Passed}
+use Rattle.levels.specs.Manners.{is-wht, if-wht}
+use Rattle.passes.specs.Inner.{revs, source, most, Lined, Limited}
 use Rattle.bitdepth.specs.declared.Depth.{Depth}
 use Rattle.levels.specs.declared.Plan.{Plan}
 use Rattle.residual.specs.declared.Engine.{Engine}
 use Rattle.residual.specs.declared.Engine.the-variants.{First}
 use Rattle.residual.specs.Blocks.{column, marked, prescale, passed-by, serves, way-by}
-use Rattle.levels.specs.Manners.{if-wht}
 
 abbrev pub entering : Kind → ℕ → ℕ → ℤ → ℤ
 entering rows w h v = if-wht rows (v >> 2) (prescale w h v)

@@ -17,13 +17,12 @@ use Rattle.av1.specs.Passes.{av1-identity, av1-wht}
 use Rattle.levels.specs.declared.Kind.{Kind}
 use Rattle.levels.specs.declared.Kind.the-variants.{Dct, Identity, Wht, Adst, FlipAdst}
 use Rattle.av1.proofs.Sides.{by-side}
-use Rattle.itx_1d.specs.Calls.{taken, put}
-use Rattle.itx_1d.specs.Inner.{most, Lined}
-use Rattle.itx_1d.specs.Passes.{wht, pass, av1-pass}
-use Rattle.itx_1d.proofs.PassLaws.{identity-zero, identity-one, mapped-at, len-power, wht-av1}
+use Rattle.passes.specs.Passes.{taken, put, wht, pass, av1-pass}
+use Rattle.passes.specs.Inner.{most, Lined}
+use Rattle.passes.proofs.PassLaws.{identity-zero, identity-one, mapped-at, len-power, wht-av1}
 use Rattle.av1.proofs.Tail.{below, run-length, run-front}
 use Rattle.av1.proofs.Zeros.{at-tab, at-zeros, at-padded}
-use Rattle.itx_1d.proofs.Strides.{at-most-32}
+use Rattle.passes.proofs.Strides.{at-most-32}
 use Rattle.spec_engine.specs.Arrays.{points, Points, begun, Held, Begins, specified, Ready, Transforms}
 use Rattle.spec_engine.specs.Lines.{Able}
 use Rattle.av1.specs.Bounds.{Small}
@@ -107,7 +106,7 @@ module _ (k : Side) (f : ℕ → ℤ) where
   T₁ = loaded (len k) f
 
   pub on-line : (kind : Kind) → T (specified kind) → (i : ℕ) → at (av1-pass kind k T₁) i ≡ at (av1-pass kind k line) i
-  unfolding Rattle.itx_1d.specs.Passes.pass
+  unfolding Rattle.passes.specs.Passes.pass
   on-line Dct h i =
       ap (λ (xs : List ℤ). at (run exact (steps (bits k)) xs) i) (tab-ext (2 ^ bits k) _ _ (λ j g. loaded-at (len k) f (brev (bits k) j)))
   on-line Identity h i = identity-at k T₁ i ∙ ap (av1-identity k) (loaded-at (len k) f i) ∙ sym (identity-at k line i)

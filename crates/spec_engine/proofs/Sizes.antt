@@ -15,8 +15,8 @@ use Rattle.av1.proofs.Related as Related
 use Rattle.levels.specs.declared.Kind.{Kind}
 use Rattle.levels.specs.declared.Kind.the-variants.{Dct, Identity, Wht, Adst, FlipAdst}
 use Rattle.av1.proofs.Sides.{by-side}
-use Rattle.itx_1d.specs.Passes.{pass, av1-pass}
-use Rattle.itx_1d.proofs.PassLaws.{pass-av1, pass-small}
+use Rattle.passes.specs.Passes.{pass, av1-pass}
+use Rattle.passes.proofs.PassLaws.{pass-av1, pass-small}
 use Rattle.spec_engine.specs.Growth.{all-below}
 use Rattle.av1.specs.Bounds.{Small, growth}
 use Rattle.av1.proofs.Bounds.{grows}
@@ -46,7 +46,7 @@ module _ (n : Side) (xs : List ℤ) where
 
   pass-is-small : (k m : ℕ) → T (all-below m (grown n k)) → 5 * k + 2 ≤ m → (kind : Kind) → T (specified kind) → ((i : ℕ) → natAbs (at xs i) ≤ k)
       → (i : ℕ) → natAbs (at (av1-pass kind n xs) i) ≤ m
-  unfolding Rattle.itx_1d.specs.Passes.pass
+  unfolding Rattle.passes.specs.Passes.pass
   pass-is-small k m b l Dct t h i = dct-small k m b h i
   pass-is-small k m b l Identity t h i = le-trans (other-small Identity k refl h i) l
   pass-is-small k m b l Wht t h i = le-trans (other-small Wht k refl h i) l
@@ -63,5 +63,5 @@ module _ (n : Side) (xs : List ℤ) where
   column-small = pass-is-small 131072 5229919 (column-bound n) (lit≤ tt)
 
   pub wht-small : (k : ℕ) → ((i : ℕ) → natAbs (at xs i) ≤ k) → (i : ℕ) → natAbs (at (av1-pass Wht n xs) i) ≤ 5 * k + 2
-  unfolding Rattle.itx_1d.specs.Passes.pass
+  unfolding Rattle.passes.specs.Passes.pass
   wht-small k h i = other-small Wht k refl h i

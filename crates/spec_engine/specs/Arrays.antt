@@ -10,7 +10,7 @@ use Rattle.whole.specs.Lists.{at, tab}
 use Rattle.levels.specs.Sides.{Side, of4, of8, of16, of32, bits}
 use Rattle.levels.specs.declared.Kind.{Kind}
 use Rattle.levels.specs.Manners.{is-adst}
-use Rattle.itx_1d.specs.Inner.{most, Lined, Passable}
+use Rattle.passes.specs.Inner.{most, Lined, Passable}
 
 -- the length 2 ^ n, for the n that the specification's transforms are for up to 32 points
 abbrev pub points : ℕ → Side

@@ -25,13 +25,12 @@ ghost use Rattle.levels.specs.Sides.{bits, side};
 ghost use Rattle.av1.specs.Network as Network;
 ghost use Rattle.av1.specs.Values.{exact};
 ghost use Rattle.av1.specs.Passes as Av1;
-ghost use Rattle.itx_1d.specs.Calls.{taken, put};
-ghost use Rattle.itx_1d.specs.Inner.{Reaches};
-ghost use Rattle.itx_1d.specs.Passes.{av1-pass};
+ghost use Rattle.passes.specs.Passes.{taken, put, av1-pass};
+ghost use Rattle.passes.specs.Inner.{Reaches};
 ghost use Rattle.spec_engine.specs.Growth.{Workable};
 ghost use Rattle.spec_engine.specs.Lines as Lines;
 ghost use Rattle.spec_engine.specs.Arrays as Arrays;
-use itx_1d::scatter;
+use passes::scatter;
 use levels::Kind;
 
 // ---- 7.13.2.1: butterfly functions

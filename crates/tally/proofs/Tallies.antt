@@ -16,12 +16,8 @@ use Rattle.whole.proofs.Counts.{tab-at, tab-ext, set-tab}
 use Rattle.blockfile.specs.Inner.{Put}
 use Rattle.blockfile.proofs.Writing.{put-then, leaves, put-none}
 use Rattle.text.specs.Text.{decimal, line}
-use Rattle.tally.specs.Totals.{Tally, sum, greatest, distances, moves, Totals, totals, _⊕_, cell-w, cell-h, cell-type}
-use Rattle.tally.specs.Inner.{one-if, distance, cells}
-use Rattle.tally.specs.Totals.{in-cell, cell-line, joined, headed, report}
-use Rattle.tally.specs.Inner.{sums-of}
-use Rattle.tally.specs.Inner.{Paired, Kept}
-use Rattle.tally.specs.Inner.{cell-lines, CellOf, Measured}
+use Rattle.tally.specs.Totals.{Tally, sum, greatest, distances, moves, Totals, totals, _⊕_, cell-w, cell-h, cell-type, in-cell, cell-line, joined, headed, report}
+use Rattle.tally.specs.Inner.{one-if, distance, cells, sums-of, Paired, Kept, cell-lines, CellOf, Measured}
 use Rattle.text.proofs.Texts.{decimal-short}
 use Rattle.tally.proofs.Sums.{sum-append, greatest-append, totals-append, one-cell}
 

@@ -7,7 +7,7 @@ use native.Mathlib.Nat.{mul-le-mul-right}
 use native.Mathlib.Omega.{arith}
 use lib.IntN.{ℤ, natAbs}
 use Rattle.whole.specs.Lists.{at}
-use Rattle.itx_1d.specs.Passes.{Passed}
+use Rattle.passes.specs.Passes.{Passed}
 use Rattle.bitdepth.specs.declared.Depth.{Depth}
 use Rattle.levels.specs.declared.Plan.{Plan}
 use Rattle.residual.specs.declared.Engine.{Engine}

@@ -13,7 +13,7 @@ use Rattle.levels.proofs.Sizes.{side-bounds}
 use Rattle.levels.specs.declared.Kind.{Kind}
 use Rattle.levels.specs.declared.Kind.the-variants.{Wht}
 use Rattle.levels.specs.Manners.{is-wht}
-use Rattle.itx_1d.specs.Inner.{Lined}
+use Rattle.passes.specs.Inner.{Lined}
 use Rattle.bitdepth.specs.declared.Depth.{Depth}
 use Rattle.bitdepth.specs.Depths.{maximum}
 use Rattle.strided.specs.Planes.{begins, spot-outside}

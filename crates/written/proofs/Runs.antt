@@ -9,8 +9,7 @@ use lib.ListN.{length, take, drop, replicate, length-take, length-drop}
 use Rattle.blockfile.proofs.Writing.{put-length}
 use Rattle.tally.proofs.Tallies.{none-yet}
 use Rattle.jobs.specs.Task.{ahead}
-use Rattle.jobs.specs.Steps.{Place, before, Step, wrote, wanted, closed, number, mind}
-use Rattle.jobs.specs.Steps.{step}
+use Rattle.jobs.specs.Steps.{Place, before, Step, wrote, wanted, closed, number, mind, step}
 use Rattle.written.specs.Following.{remaining, Follows}
 use Rattle.jobs.specs.Totalling.{totalling}
 use Rattle.written.specs.Output.{Last}

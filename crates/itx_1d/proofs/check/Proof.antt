@@ -6,7 +6,7 @@ use mir.Syntax.{w32}
 use mir.ValLaws.{toZ-ofZ}
 use Rattle.whole.specs.Lists.{at}
 use Rattle.itx_1d.proofs.Checks.{placed}
-use Rattle.itx_1d.proofs.Strides.{not-0, in-reach}
+use Rattle.passes.proofs.Strides.{not-0, in-reach}
 use Rattle.itx_1d.proofs.check.Statement.{statement}
 use Rattle.itx_1d.proofs.check.Tie as tie
 

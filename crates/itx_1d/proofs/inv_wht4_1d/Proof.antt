@@ -11,7 +11,7 @@ use Rattle.whole.specs.Lists.{at, first}
 use Rattle.levels.specs.Sides.{of4}
 use Rattle.levels.specs.declared.Kind.the-variants.{Wht}
 use Rattle.itx_1d.specs.Calls.{accepted, unranged}
-use Rattle.itx_1d.specs.Passes.{pass}
+use Rattle.passes.specs.Passes.{pass}
 use Rattle.itx_1d.proofs.Accepted.{Judged, refused, all-good, met, seen, unranged-is, done}
 use Rattle.itx_1d.proofs.inv_wht4_1d.Statement.{statement}
 use Rattle.itx_1d.proofs.inv_wht4_1d.Tie as tie

@@ -15,10 +15,11 @@ use Rattle.whole.proofs.Held.{to2}
 use Rattle.levels.specs.Sides.{side}
 use Rattle.itx_1d.specs.declared.Pass.the-variants.{Done}
 use Rattle.itx_1d.specs.Calls.{bad-range, accepted, Meets}
-use Rattle.itx_1d.specs.Inner.{range-check, checked, looked, called, Seen, Ranged, Passable, Passing, Made}
-use Rattle.itx_1d.proofs.Most.{most-ranged}
+use Rattle.itx_1d.specs.Inner.{range-check, checked, called}
+use Rattle.passes.specs.Inner.{looked, Seen, Ranged, Passable, Passing, Made}
+use Rattle.passes.proofs.Most.{most-ranged}
 use Rattle.itx_1d.proofs.Accepted.{Judged, refused, all-good, met, seen, ranged-of, passed, called-is, done}
-use Rattle.itx_1d.proofs.Through.{not-more, ends-of}
+use Rattle.passes.proofs.Through.{not-more, ends-of}
 use Rattle.itx_1d.proofs.ranged.Statement.{statement}
 use Rattle.itx_1d.proofs.ranged.Tie as tie
 

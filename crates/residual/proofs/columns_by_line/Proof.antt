@@ -8,7 +8,7 @@ use mir.Syntax.{w32}
 use mir.Val.{toZ}
 use mir.ValLaws.{toZ-ofZ}
 use Rattle.whole.proofs.Held.{to2}
-use Rattle.itx_1d.specs.Inner.{Limited}
+use Rattle.passes.specs.Inner.{Limited}
 use Rattle.residual.specs.Inner.{ColumnsBy}
 use Rattle.residual.proofs.Steps.{columned-none, column-passable, columns-are-more}
 use Rattle.residual.proofs.columns_by_line.Statement.{statement}

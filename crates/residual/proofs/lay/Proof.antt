@@ -5,7 +5,7 @@ use native.Mathlib.Nat.{le-trans, mul-le-mul}
 use native.Mathlib.Omega.{arith}
 use lib.Dec.{lit≤}
 use Rattle.whole.specs.Lists.{at}
-use Rattle.itx_1d.proofs.Strides.{not-0, at-most-32}
+use Rattle.passes.proofs.Strides.{not-0, at-most-32}
 use Rattle.residual.specs.Inner.{Laid}
 use Rattle.residual.proofs.Laying.{Placed, placed, laid-none, laid-more}
 use Rattle.residual.proofs.lay.Statement.{statement}

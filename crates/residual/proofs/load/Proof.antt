@@ -4,7 +4,7 @@ use Prim.Native.Nat.{_≤_, _-_}
 use native.Mathlib.Nat.{le-trans}
 use native.Mathlib.Omega.{arith}
 use lib.Dec.{lit≤}
-use Rattle.itx_1d.proofs.Strides.{not-0}
+use Rattle.passes.proofs.Strides.{not-0}
 use Rattle.residual.specs.Inner.{loaded, Laid}
 use Rattle.residual.proofs.Laying.{Placed, placed, laid-none, laid-more}
 use Rattle.residual.proofs.Places.{h-small}

@@ -14,7 +14,7 @@ use Rattle.whole.proofs.Held.{to2}
 use Rattle.levels.specs.Sides.{len, side}
 use Rattle.lanes.specs.Stages.{Ready}
 use Rattle.lanes.proofs.Chain.{held}
-use Rattle.itx_1d.proofs.Strides.{at-most-32}
+use Rattle.passes.proofs.Strides.{at-most-32}
 use Rattle.residual.proofs.Quick.{ready, value, unmarked, all-left, gave-up, succeeded}
 use Rattle.residual.proofs.quick_columns.Statement.{statement}
 use Rattle.residual.proofs.quick_columns.Tie as tie

@@ -12,7 +12,7 @@ use Rattle.lanes.specs.Stages.{Ready}
 use Rattle.lanes.proofs.Chain.{held}
 use Rattle.levels.specs.declared.Kind.{Kind}
 use Rattle.levels.specs.declared.Kind.the-variants.{Dct}
-use Rattle.itx_1d.specs.Inner.{Limited, Ranged}
+use Rattle.passes.specs.Inner.{Limited, Ranged}
 use Rattle.residual.specs.Inner.{loaded}
 use Rattle.residual.proofs.Places.{h-small}
 use Rattle.residual.proofs.Small.{loaded-small}

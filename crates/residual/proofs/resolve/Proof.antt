@@ -7,7 +7,7 @@ use lib.Dec.{lit≤}
 use borrow.Author.Needs.{needs}
 use Rattle.whole.specs.Numbers.{low, high}
 use Rattle.whole.specs.Lists.{at}
-use Rattle.itx_1d.specs.Inner.{Limited}
+use Rattle.passes.specs.Inner.{Limited}
 use Rattle.bitdepth.specs.Depths.{row-range, column-range}
 use Rattle.residual.specs.Inner.{Filled, rounding, RowsBy}
 use Rattle.bitdepth.proofs.Ends.{row-reach, column-reach, lo-is, hi-is, as-held, m-is}

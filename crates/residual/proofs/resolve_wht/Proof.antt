@@ -31,11 +31,11 @@ unrounded t k = record { own = λ i j e l. ap (at t) (omega arith); other = λ i
 module _ (d : Depth) where
   rows-are : (c : List ℤ) (r : ℕ) (t : List ℤ) → HoldsIn 16 4 r (λ y x. at (row-made (wht-plan 0) 0 c y .values) x) t
       → RowsAreIn 16 First (wht-plan 0) (row-range d) c r t false
-  unfolding Rattle.itx_1d.specs.Passes.pass
+  unfolding Rattle.passes.specs.Passes.pass
   rows-are c r t h = record { elements = h; marked = sym (any-none r _ (λ y l. refl)) }
 
   columns-are : (t u : List ℤ) → Columned 16 First Wht 0 4 4 t 4 u → ColumnsAreIn 16 First Wht (column-range d) 4 4 t 4 u false
-  unfolding Rattle.itx_1d.specs.Passes.pass
+  unfolding Rattle.passes.specs.Passes.pass
   columns-are t u h = record
       { elements = record { passed = h .passed; waiting = h .waiting; long = h .long }; marked = sym (any-none 4 _ (λ x l. refl)) }
 

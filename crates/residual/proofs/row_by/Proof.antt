@@ -4,7 +4,7 @@ use mir.Syntax.{w32}
 use mir.ValLaws.{toZ-ofZ}
 use borrow.Author.Needs.{needs}
 use Rattle.whole.proofs.Held.{to2}
-use Rattle.itx_1d.specs.Inner.{Passing}
+use Rattle.passes.specs.Inner.{Passing}
 use Rattle.residual.proofs.row_by.Statement.{statement}
 use Rattle.residual.proofs.row_by.Tie as tie
 

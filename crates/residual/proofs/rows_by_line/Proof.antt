@@ -9,8 +9,8 @@ use mir.Syntax.{w32}
 use mir.Val.{toZ}
 use mir.ValLaws.{toZ-ofZ}
 use Rattle.whole.proofs.Held.{to2}
-use Rattle.itx_1d.specs.Inner.{Limited}
-use Rattle.itx_1d.proofs.Most.{at-most}
+use Rattle.passes.specs.Inner.{Limited}
+use Rattle.passes.proofs.Most.{at-most}
 use Rattle.residual.specs.Inner.{RowsBy}
 use Rattle.residual.proofs.Fills.{rows-none}
 use Rattle.residual.proofs.Places.{area, rows-fit}

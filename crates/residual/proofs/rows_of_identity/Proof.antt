@@ -5,7 +5,7 @@ use native.Mathlib.Omega.{arith}
 use lib.Dec.{lit≤}
 use lib.IntN.{natAbs}
 use Rattle.whole.specs.Lists.{at}
-use Rattle.itx_1d.proofs.Strides.{not-0}
+use Rattle.passes.proofs.Strides.{not-0}
 use Rattle.residual.specs.Inner.{loaded, Holds}
 use Rattle.residual.proofs.Fills.{rows-none, rows-more}
 use Rattle.residual.proofs.Places.{area, rows-fit}

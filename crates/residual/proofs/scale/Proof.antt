@@ -7,7 +7,7 @@ use mir.Val.{toZ, ofZ}
 use mir.ValLaws.{toZ-ofZ}
 use Rattle.whole.specs.Lists.{at}
 use Rattle.levels.specs.Sides.{side}
-use Rattle.itx_1d.specs.Passes.{identity}
+use Rattle.passes.specs.Passes.{identity}
 use Rattle.residual.specs.Inner.{Filled}
 use Rattle.residual.proofs.Fills.{filled-none, filled-more}
 use Rattle.residual.proofs.scale.Statement.{statement}

@@ -6,7 +6,7 @@ use lib.ListN.{length}
 use mir.Syntax.{w32}
 use mir.ValLaws.{toZ-ofZ}
 use Rattle.whole.specs.Lists.{at}
-use Rattle.itx_1d.proofs.Strides.{at-most-32}
+use Rattle.passes.proofs.Strides.{at-most-32}
 use Rattle.spec_engine.proofs.Fronts.{Begun, begun-none, begun-more}
 use Rattle.spec_engine.proofs.load.Statement.{statement}
 use Rattle.spec_engine.proofs.load.Tie as tie

@@ -7,7 +7,7 @@ use Rattle.whole.specs.Numbers.{_>>_}
 use Rattle.whole.specs.Lists.{at}
 use Rattle.whole.proofs.Machine.{_⊕_, _⊝_}
 use Rattle.av1.specs.Passes.{av1-wht}
-use Rattle.itx_1d.proofs.Wht.{t0, t1, t2, t3, Four, fits, is}
+use Rattle.passes.proofs.Wht.{t0, t1, t2, t3, Four, fits, is}
 use Rattle.spec_engine.proofs.Fronts.{four}
 use Rattle.spec_engine.proofs.wht.Statement.{statement}
 use Rattle.spec_engine.proofs.wht.Tie as tie

@@ -1,4 +1,4 @@
--- `itx_1d::identity` meets its contract.
+-- `passes::identity` meets its contract.
 use mathlib.Core.Path.{_≡_, sym, ap, _∙_}
 use mathlib.Core.List.{map}
 use Prim.Native.Nat.{_≤_, _<_, _-_, _*_}
@@ -11,12 +11,12 @@ use mir.ValLaws.{toZ-ofZ}
 use Rattle.whole.specs.Lists.{at}
 use Rattle.whole.proofs.Counts.{tab-at}
 use Rattle.levels.specs.Sides.{side}
-use Rattle.itx_1d.specs.Passes as Passes
-use Rattle.itx_1d.specs.Calls.{taken}
-use Rattle.itx_1d.proofs.PassLaws.{identity-at}
-use Rattle.itx_1d.proofs.Strides.{Putting, putting-none, putting-more, putting-next}
-use Rattle.itx_1d.proofs.identity.Statement.{statement}
-use Rattle.itx_1d.proofs.identity.Tie as tie
+use Rattle.passes.specs.Passes as Passes
+use Rattle.passes.specs.Passes.{taken}
+use Rattle.passes.proofs.PassLaws.{identity-at}
+use Rattle.passes.proofs.Strides.{Putting, putting-none, putting-more, putting-next}
+use Rattle.passes.proofs.identity.Statement.{statement}
+use Rattle.passes.proofs.identity.Tie as tie
 
 abbrev Inv-loop : tie.InvT-loop
 Inv-loop c₀ n stride i₀ c i = Putting c₀ stride (map (Passes.identity (side n)) (taken c₀ stride n)) i c × (i ≤ n)

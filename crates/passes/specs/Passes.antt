@@ -1,9 +1,10 @@
 -- One-dimensional passes: document 01, "One-dimensional passes", with the mark of request E4; and section 7.13.2 of the AV1 specification by kind.
 use mathlib.Core.Bool.{Bool, true, false, cond}
 use mathlib.Core.List.{List, [], _∷_, map}
-use Prim.Native.Nat.{ℕ, _/_}
+use Prim.Native.Nat.{ℕ, zero, suc, _*_, _/_}
 use lib.Dec.{ltb}
 use lib.IntN.{ℤ, pos, _+ℤ_, _-ℤ_, _*ℤ_}
+use lib.ListN.{set}
 use Rattle.whole.specs.Numbers.{_>>_, round2, low, high}
 use Rattle.whole.specs.Lists.{at, tab}
 use Rattle.levels.specs.Sides.{Side, of4, of8, of16, of32, len, bits}
@@ -57,6 +58,14 @@ filled g n xs = tab (len n) (λ i. cond (ltb i (len n / 2)) (at xs i) (g i))
 
 abbrev pub lower : Side → List ℤ → List ℤ
 lower n xs = filled (λ i. pos 0) n xs
+
+-- "A pass works on elements 0, s, 2s, .. of a lent slice": the n that it takes, and the slice with the first k of its values put back
+abbrev pub taken : List ℤ → ℕ → ℕ → List ℤ
+taken c s n = tab n (λ i. at c (i * s))
+
+unfoldable pub put : List ℤ → ℕ → List ℤ → ℕ → List ℤ
+put c s vs zero = c
+put c s vs (suc k) = set (put c s vs k) (k * s) (at vs k)
 
 -- section 7.13.2: no range, no clip
 abbrev pub av1-pass : Kind → Side → List ℤ → List ℤ

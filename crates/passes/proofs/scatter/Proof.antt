@@ -1,13 +1,13 @@
--- `itx_1d::scatter` meets its contract.
+-- `passes::scatter` meets its contract.
 use mathlib.Core.Path.{_≡_}
 use Prim.Native.Nat.{_≤_, _<_, _-_, _*_}
 use native.Mathlib.Omega.{arith}
 use lib.ListN.{length}
 use mir.Syntax.{w32}
 use mir.ValLaws.{toZ-ofZ}
-use Rattle.itx_1d.proofs.Strides.{at-most-32, Putting, putting-none, putting-more}
-use Rattle.itx_1d.proofs.scatter.Statement.{statement}
-use Rattle.itx_1d.proofs.scatter.Tie as tie
+use Rattle.passes.proofs.Strides.{at-most-32, Putting, putting-none, putting-more}
+use Rattle.passes.proofs.scatter.Statement.{statement}
+use Rattle.passes.proofs.scatter.Tie as tie
 
 abbrev Inv-loop : tie.InvT-loop
 Inv-loop c₀ stride n t i₀ c i = Putting c₀ stride t i c × (i ≤ n)

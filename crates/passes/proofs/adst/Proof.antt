@@ -1,4 +1,4 @@
--- `itx_1d::adst` meets its contract.
+-- `passes::adst` meets its contract.
 use mathlib.Core.Path.{_≡_, _∙_, subst⁻¹}
 use mathlib.Core.List.{List, [], _∷_}
 use Prim.Native.Nat.{ℕ, zero, suc, _*_, _≤_, _<_}
@@ -13,9 +13,9 @@ use Rattle.whole.specs.Lists.{at}
 use Rattle.whole.proofs.Sizes.{abs-fits}
 use Rattle.av1.specs.Passes.{av1-adst}
 use Rattle.av1.proofs.Adst.{adst-small}
-use Rattle.itx_1d.specs.Calls.{put}
-use Rattle.itx_1d.proofs.adst.Statement.{statement}
-use Rattle.itx_1d.proofs.adst.Tie as tie
+use Rattle.passes.specs.Passes.{put}
+use Rattle.passes.proofs.adst.Statement.{statement}
+use Rattle.passes.proofs.adst.Tie as tie
 
 abbrev start : tie.After-in3 → tie.Start
 start c = c .before .before .before .before

@@ -1,4 +1,4 @@
--- `itx_1d::inv_1d` meets its contract.
+-- `passes::inv_1d` meets its contract.
 use mathlib.Core.Path.{_≡_, refl}
 use Prim.Native.Nat.{ℕ}
 use lib.Dec.{T, eqb, eqb→eq}
@@ -8,10 +8,10 @@ use borrow.Author.Needs.{needs}
 use Rattle.whole.proofs.Held.{to2}
 use Rattle.levels.specs.declared.Kind.{Kind}
 use Rattle.levels.specs.declared.Kind.the-variants.{Dct, Identity, Wht, Adst, FlipAdst}
-use Rattle.itx_1d.specs.Passes.{pass}
-use Rattle.itx_1d.specs.Inner.{Ranged, Passable, Passing}
-use Rattle.itx_1d.proofs.inv_1d.Statement.{statement}
-use Rattle.itx_1d.proofs.inv_1d.Tie as tie
+use Rattle.passes.specs.Passes.{pass}
+use Rattle.passes.specs.Inner.{Ranged, Passable, Passing}
+use Rattle.passes.proofs.inv_1d.Statement.{statement}
+use Rattle.passes.proofs.inv_1d.Tie as tie
 
 -- what is asked, of the kind that it is
 asked : (s : tie.Start) (k : Kind) → s .args .kind ≡ k → Passing k (s .args .c .now) (s .args .n) (s .args .stride) (s .args .min) (s .args .max)

@@ -1,11 +1,11 @@
--- `itx_1d::dct` meets its contract.
+-- `passes::dct` meets its contract.
 use borrow.Author.Needs.{needs}
 use Rattle.whole.proofs.Held.{to2}
 use Rattle.dct.specs.Fitting.{Ends}
-use Rattle.itx_1d.proofs.Through.{taken-small, gathered-small, ends-of, dct-is}
+use Rattle.passes.proofs.Through.{taken-small, gathered-small, ends-of, dct-is}
 use Rattle.dct.proofs.Walk.{joined-held}
-use Rattle.itx_1d.proofs.dct.Statement.{statement}
-use Rattle.itx_1d.proofs.dct.Tie as tie
+use Rattle.passes.proofs.dct.Statement.{statement}
+use Rattle.passes.proofs.dct.Tie as tie
 
 pub dct-spec : {M : Type 1} → statement M
 dct-spec =

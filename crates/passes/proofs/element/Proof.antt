@@ -1,4 +1,4 @@
--- `itx_1d::element` meets its contract.
+-- `passes::element` meets its contract.
 use mathlib.Core.Path.{_≡_, sym, _∙_}
 use mathlib.Core.List.{List}
 use Prim.Native.Nat.{_<_, _*_}
@@ -9,11 +9,11 @@ use mir.Syntax.{w32}
 use mir.ValLaws.{toZ-ofZ}
 use Rattle.whole.specs.Lists.{at}
 use Rattle.whole.proofs.Counts.{tab-at}
-use Rattle.itx_1d.specs.Calls.{taken}
-use Rattle.itx_1d.specs.Inner.{source}
-use Rattle.itx_1d.proofs.Strides.{Source, source-at, at-most-32, not-0, read-is, unread-is}
-use Rattle.itx_1d.proofs.element.Statement.{statement}
-use Rattle.itx_1d.proofs.element.Tie as tie
+use Rattle.passes.specs.Passes.{taken}
+use Rattle.passes.specs.Inner.{source}
+use Rattle.passes.proofs.Strides.{Source, source-at, at-most-32, not-0, read-is, unread-is}
+use Rattle.passes.proofs.element.Statement.{statement}
+use Rattle.passes.proofs.element.Tie as tie
 
 module _ (s : tie.Start) where
   here : Source (s .args .n) (s .args .i)

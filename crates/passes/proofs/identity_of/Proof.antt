@@ -1,4 +1,4 @@
--- `itx_1d::identity_of` meets its contract.
+-- `passes::identity_of` meets its contract.
 use mathlib.Core.Path.{_≡_}
 use mathlib.Core.List.{[], _∷_}
 use lib.Dec.{T}
@@ -7,10 +7,10 @@ use mir.Syntax.{w32}
 use mir.Val.{SFits, toZ, ofZ}
 use Rattle.whole.specs.Numbers.{_>>_, round2}
 use Rattle.whole.proofs.Machine.{E, var, lit, _⊕_, _⊛_, _≫_, ok, raw, ev, need, reads}
-use Rattle.itx_1d.specs.Passes.{identity}
+use Rattle.passes.specs.Passes.{identity}
 use Rattle.av1.proofs.Sides.{sided-32}
-use Rattle.itx_1d.proofs.identity_of.Statement.{statement}
-use Rattle.itx_1d.proofs.identity_of.Tie as tie
+use Rattle.passes.proofs.identity_of.Statement.{statement}
+use Rattle.passes.proofs.identity_of.Tie as tie
 
 abbrev scaled : E
 scaled = var 0 ⊛ lit (pos 1697)

@@ -6,7 +6,7 @@ use lib.Dec.{T, lit≤}
 use Rattle.levels.specs.declared.Kind.{Kind}
 use Rattle.levels.specs.Manners.{is-wht}
 use Rattle.levels.proofs.Manners.{split}
-use Rattle.itx_1d.specs.Inner.{most, takes-range}
+use Rattle.passes.specs.Inner.{most, takes-range}
 
 pub at-most : (k : Kind) → 524288 ≤ most k
 at-most k = split (λ n. 524288 ≤ n) k 16777216 524288 (λ t. lit≤ tt) (lit≤ tt)

@@ -22,9 +22,9 @@ use Rattle.av1.proofs.Adst.{adst-zero, adst-small}
 use Rattle.av1.proofs.Known as Known
 use Rattle.av1.proofs.Unclipped.{unclipped}
 use Rattle.av1.proofs.Zeros.{at-tab}
-use Rattle.itx_1d.specs.Passes.{Passed, identity, wht, pass, av1-pass}
-use Rattle.itx_1d.specs.Passes as Passes
-use Rattle.itx_1d.proofs.Wht.{t0, t1, t2, t3}
+use Rattle.passes.specs.Passes.{Passed, identity, wht, pass, av1-pass}
+use Rattle.passes.specs.Passes as Passes
+use Rattle.passes.proofs.Wht.{t0, t1, t2, t3}
 use Rattle.levels.specs.declared.Kind.{Kind}
 use Rattle.levels.specs.declared.Kind.the-variants.{Dct, Identity, Wht, Adst, FlipAdst}
 use Rattle.av1.proofs.Sides.{by-side}

@@ -1,4 +1,4 @@
--- `itx_1d::gather` meets its contract.
+-- `passes::gather` meets its contract.
 use mathlib.Core.Path.{_≡_, _∙_}
 use mathlib.Core.Bool.{Bool}
 use mathlib.Core.List.{List, _++_}
@@ -10,11 +10,11 @@ use mir.Syntax.{w32}
 use mir.ValLaws.{toZ-ofZ}
 use Rattle.whole.specs.Lists.{at, tab}
 use Rattle.levels.specs.Sides.{side}
-use Rattle.itx_1d.specs.Calls.{taken}
-use Rattle.itx_1d.specs.Inner.{source, read}
-use Rattle.itx_1d.proofs.Strides.{at-most-32, one-more}
-use Rattle.itx_1d.proofs.gather.Statement.{statement}
-use Rattle.itx_1d.proofs.gather.Tie as tie
+use Rattle.passes.specs.Passes.{taken}
+use Rattle.passes.specs.Inner.{source, read}
+use Rattle.passes.proofs.Strides.{at-most-32, one-more}
+use Rattle.passes.proofs.gather.Statement.{statement}
+use Rattle.passes.proofs.gather.Tie as tie
 
 -- element i of the work array
 abbrev element : List ℤ → ℕ → ℕ → Bool → ℕ → ℤ

@@ -18,9 +18,8 @@ use Rattle.whole.proofs.Counts.{tab-at, last-or-less}
 use Rattle.levels.specs.Sides.{len, side}
 use Rattle.levels.proofs.Sizes.{side-bounds}
 use Rattle.av1.proofs.Sides.{of-length}
-use Rattle.itx_1d.specs.Passes.{lower}
-use Rattle.itx_1d.specs.Calls.{put}
-use Rattle.itx_1d.specs.Inner.{source, sources-below, read, looked}
+use Rattle.passes.specs.Passes.{lower, put}
+use Rattle.passes.specs.Inner.{source, sources-below, read, looked}
 
 -- ---- the lengths
 

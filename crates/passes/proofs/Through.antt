@@ -23,10 +23,9 @@ use Rattle.dct.specs.Stages.{Through, reach, small}
 use Rattle.dct.proofs.Order.{order, mark-order}
 use Rattle.levels.specs.declared.Kind.the-variants.{Dct}
 use Rattle.av1.proofs.Sides.{by-side}
-use Rattle.itx_1d.specs.Passes.{pass}
-use Rattle.itx_1d.specs.Calls.{taken, put}
-use Rattle.itx_1d.specs.Inner.{source, gathered, read, looked, Seen, Ranged, DctIs}
-use Rattle.itx_1d.proofs.Strides.{at-most-32, read-in, read-is, unread-is}
+use Rattle.passes.specs.Passes.{pass, taken, put}
+use Rattle.passes.specs.Inner.{source, gathered, read, looked, Seen, Ranged, DctIs}
+use Rattle.passes.proofs.Strides.{at-most-32, read-in, read-is, unread-is}
 
 -- ---- the work array is small
 

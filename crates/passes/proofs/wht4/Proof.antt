@@ -1,4 +1,4 @@
--- `itx_1d::wht4` meets its contract.
+-- `passes::wht4` meets its contract.
 use mathlib.Core.Path.{refl}
 use Prim.Native.Nat.{ℕ, _*_, _<_}
 use native.Mathlib.Omega.{arith}
@@ -7,11 +7,10 @@ use lib.ListN.{length, set, length-set}
 use Rattle.whole.specs.Numbers.{_>>_}
 use Rattle.whole.specs.Lists.{at}
 use Rattle.whole.proofs.Machine.{_⊕_, _⊝_}
-use Rattle.itx_1d.specs.Passes.{wht, pass}
-use Rattle.itx_1d.specs.Calls.{put}
-use Rattle.itx_1d.proofs.Wht.{t0, t1, t2, t3, Four, fits, is}
-use Rattle.itx_1d.proofs.wht4.Statement.{statement}
-use Rattle.itx_1d.proofs.wht4.Tie as tie
+use Rattle.passes.specs.Passes.{wht, pass, put}
+use Rattle.passes.proofs.Wht.{t0, t1, t2, t3, Four, fits, is}
+use Rattle.passes.proofs.wht4.Statement.{statement}
+use Rattle.passes.proofs.wht4.Tie as tie
 
 abbrev start : tie.After-in3 → tie.Start
 start c = c .before .before .before .before

@@ -1,9 +1,9 @@
--- `itx_1d::dct_of` meets its contract.
+-- `passes::dct_of` meets its contract.
 use borrow.Author.Needs.{needs}
 use Rattle.av1.proofs.Sides.{sided-32}
 use Rattle.dct.proofs.Walk.{joined-held}
-use Rattle.itx_1d.proofs.dct_of.Statement.{statement}
-use Rattle.itx_1d.proofs.dct_of.Tie as tie
+use Rattle.passes.proofs.dct_of.Statement.{statement}
+use Rattle.passes.proofs.dct_of.Tie as tie
 
 pub dct-of-spec : {M : Type 1} → statement M
 dct-of-spec =
