@@ -5,9 +5,9 @@ use Prim.Native.Nat.{ℕ}
 use lib.Dec.{eqb}
 use lib.IntN.{pos, negsuc}
 use lib.ListN.{replicate}
-use Rattle.blockfile.specs.Read.{got, refused}
-use Rattle.blockfile.specs.Form.{number}
-use Rattle.blockfile.specs.Zigzag.{zig}
+use Rattle.numbers.specs.Read.{got, refused}
+use Rattle.numbers.specs.Form.{number}
+use Rattle.numbers.specs.Zigzag.{zig}
 use Rattle.blockfile.specs.File.{here, refused-at, unknown, file, read-file, read-blocks}
 use Rattle.blockfile.specs.Inner.{block-of}
 

@@ -8,19 +8,17 @@ use lib.Dec.{eqb, leb}
 use lib.IntN.{ℤ}
 use lib.ListN.{length, length-append}
 use borrow.Author.Tests.{leb-true, le-leb}
-use Rattle.whole.specs.Checks.{Check, accept, refuse}
+use Rattle.whole.specs.Checks.{Check, accept, refuse, accepted}
 use Rattle.levels.specs.Plans.{shift-of}
 use Rattle.levels.proofs.Sizes.{Sided, shift-sided, side-bounds}
-use Rattle.whole.specs.Checks.{accepted}
-use Rattle.blockfile.specs.Zigzag.{zig, zag}
-use Rattle.blockfile.specs.Form.{Each}
-use Rattle.blockfile.specs.Record.{sized, coefficient, pixel, size, Block, area, to-head, from-head, to-block, from-block, announces}
-use Rattle.blockfile.specs.Record.{fifth, head-of, count, form, Plain}
+use Rattle.numbers.specs.Zigzag.{zig, zag}
+use Rattle.numbers.specs.Form.{Each}
+use Rattle.blockfile.specs.Record.{sized, coefficient, pixel, size, Block, area, to-head, from-head, to-block, from-block, announces, fifth, head-of, count, form, Plain}
 use Rattle.blockfile.specs.declared.record.Head.{Head}
-use Rattle.blockfile.proofs.Numbers.{number-some, number-short}
-use Rattle.blockfile.proofs.Zigzags.{zag-zig, zig-zag, zig-fits, fits-zig}
-use Rattle.blockfile.proofs.Forms.{Lawful, number-lawful, only-if-lawful, called-lawful, followed-lawful, times-lawful, each-map}
-use Rattle.blockfile.proofs.Rooms.{Room, more-room, number-room, only-if-room, called-room, followed-room, times-room, Some}
+use Rattle.numbers.proofs.Numbers.{number-some, number-short}
+use Rattle.numbers.proofs.Zigzags.{zag-zig, zig-zag, zig-fits, fits-zig}
+use Rattle.numbers.proofs.Forms.{Lawful, number-lawful, only-if-lawful, called-lawful, followed-lawful, times-lawful, each-map}
+use Rattle.numbers.proofs.Rooms.{Room, more-room, number-room, only-if-room, called-room, followed-room, times-room, Some}
 
 -- ---- sizes
 

@@ -1,17 +1,12 @@
 -- What the code asks and answers, in terms of the definitions: places of slices instead of lists of bytes.
-use mathlib.Core.Path.{_≡_}
-use mathlib.Core.Bool.{Bool, cond, _&&_}
+use mathlib.Core.Bool.{Bool}
 use mathlib.Core.List.{List}
-use Prim.Native.Nat.{ℕ, _+_, _*_, _≤_, _<_}
-use lib.Dec.{eqb, ltb}
+use Prim.Native.Nat.{ℕ, _≤_, _<_}
 use lib.IntN.{ℤ}
-use lib.ListN.{length, take, drop}
-use lib.Seq.{sets}
-use Rattle.blockfile.specs.Read.{got, refused}
-use Rattle.blockfile.specs.Form.{Form, number, only-if, times}
+use lib.ListN.{length, take}
+use Rattle.numbers.specs.Form.{Form, number, only-if, times}
 use Rattle.blockfile.specs.Record.{Block, area, count, head-of, form}
-use Rattle.blockfile.specs.declared.number.Number.{Number}
-use Rattle.blockfile.specs.declared.number.Number.the-variants.{Got, Refused}
+use Rattle.numbers.specs.Inner.{Took, Missed}
 use Rattle.blockfile.specs.declared.samples.Place.{Place}
 use Rattle.blockfile.specs.declared.samples.Place.the-variants as Place
 use Rattle.blockfile.specs.declared.record.Head.{Head}
@@ -19,30 +14,6 @@ use Rattle.blockfile.specs.declared.record.HeadRead.{HeadRead}
 use Rattle.blockfile.specs.declared.record.HeadRead.the-variants as HeadRead
 use Rattle.blockfile.specs.declared.record.Found.{Found}
 use Rattle.blockfile.specs.declared.record.Found.the-variants as Found
-
--- ---- reading at a place
-
--- c reads a at a place of s, and `next` is the place after it
-pub record Took {A : Type 0} (c : Form A) (s : List ℕ) (at : ℕ) (a : A) (next : ℕ) : Type 0 where
-  pub read : c .read (drop at s) ≡ got a (drop next s)
-  pub inside : next ≤ length s
-
--- c refuses by k what stands there
-abbrev pub Missed : {A : Type 0} → Form A → List ℕ → ℕ → ℕ → Type 0
-Missed c s at k = c .read (drop at s) ≡ refused k
-
--- a number
-abbrev pub NumberAt : List ℕ → ℕ → Number → Type 0
-NumberAt s at (Got v next) = Took number s at v next
-NumberAt s at (Refused k) = Missed number s at k
-
--- a last group b after groups that came to `value`: needless if it is zero and not the first
-unfoldable pub last-group : ℕ → ℕ → ℕ → ℕ → Number
-last-group value scale b next = cond (eqb b 0 && ltb 1 scale) (Refused 17) (Got (value + b * scale) next)
-
-abbrev pub number-refusal : Number → ℕ
-number-refusal (Got v next) = 0
-number-refusal (Refused k) = k
 
 -- a file's first number, of those that pass a test
 abbrev pub first : (ℕ → Bool) → Form ℕ
@@ -78,11 +49,3 @@ abbrev pub RecordAt : ℕ → List ℕ → ℕ → List ℤ → List ℕ → Fou
 RecordAt v s at cs ps (Found.Record h next) = (at < length s) × Took (form v) s at (fronted v h cs ps) next
 RecordAt v s at cs ps Found.End = length s ≤ at
 RecordAt v s at cs ps (Found.Refused k) = (at < length s) × Missed (form v) s at k
-
--- ---- writing at a place
-
--- bytes are written to a list from a place on, where they have room
-pub record Put (bytes : List ℕ) (entry : List ℕ) (at : ℕ) (exit : List ℕ) (r : ℕ) : Type 0 where
-  pub elements : exit ≡ sets entry at bytes
-  pub place : r ≡ at + length bytes
-  pub room : r ≤ length entry

@@ -11,8 +11,8 @@ use mir.Syntax.{w32}
 use mir.Val.{SFits}
 use Rattle.levels.specs.Plans.{shift-of}
 use Rattle.whole.specs.Checks.{accepted}
-use Rattle.blockfile.specs.Zigzag.{zig, zag}
-use Rattle.blockfile.specs.Form.{Form, number, only-if, called, followed, times, Each}
+use Rattle.numbers.specs.Zigzag.{zig, zag}
+use Rattle.numbers.specs.Form.{Form, number, only-if, called, followed, times, Each}
 use Rattle.blockfile.specs.declared.record.Head.{Head}
 
 -- one of the fourteen sizes of document 01

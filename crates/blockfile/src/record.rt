@@ -5,11 +5,8 @@ ghost use Prim.Native.Nat.{_+_, _*_, _≤_};
 ghost use lib.Dec.{eqb};
 ghost use lib.ListN.{length};
 ghost use Rattle.blockfile.specs.Record.{sized, announces, head-of, form};
-ghost use Rattle.blockfile.specs.Inner.{HeadAt, RecordAt, Put, head-refusal, block-of};
-use crate::number::Number;
-use crate::number::read_number;
-use crate::number::refusal;
-use crate::number::write_number;
+ghost use Rattle.blockfile.specs.Inner.{HeadAt, RecordAt, head-refusal, block-of};
+ghost use Rattle.numbers.specs.Inner.{Put};
 use crate::samples;
 use crate::samples::Place;
 use crate::samples::read_coefficients;
@@ -18,6 +15,10 @@ use crate::samples::write_coefficients;
 use crate::samples::write_pixels;
 use levels::SizeCheck;
 use levels::size_shift;
+use numbers::Number;
+use numbers::read_number;
+use numbers::refusal;
+use numbers::write_number;
 
 pub struct Head {
     pub w: u32,

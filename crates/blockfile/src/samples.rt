@@ -2,14 +2,15 @@
 ghost use Prim.Native.Nat.{_+_, _*_, _≤_};
 ghost use mathlib.Core.Path.{_≡_};
 ghost use lib.ListN.{length};
-ghost use Rattle.blockfile.specs.Form.{write-each};
+ghost use Rattle.numbers.specs.Form.{write-each};
 ghost use Rattle.blockfile.specs.Record.{pixel, coefficient};
-ghost use Rattle.blockfile.specs.Inner.{place-refusal, EachAt, Put};
-use crate::number::Number;
-use crate::number::coefficient_of;
-use crate::number::number_of;
-use crate::number::read_number;
-use crate::number::write_number;
+ghost use Rattle.blockfile.specs.Inner.{place-refusal, EachAt};
+ghost use Rattle.numbers.specs.Inner.{Put};
+use numbers::Number;
+use numbers::coefficient_of;
+use numbers::number_of;
+use numbers::read_number;
+use numbers::write_number;
 
 // The place after what was read, or the number of a refusal.
 pub enum Place {

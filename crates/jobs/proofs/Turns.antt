@@ -10,13 +10,14 @@ use lib.ListN.{length, take, drop, drop-of-length-le}
 use lib.Seq.{drop-cons, take-at}
 use borrow.Author.Tests.{ne-eqb}
 use Rattle.whole.specs.Answers.{Answer}
-use Rattle.blockfile.specs.Form as Form
-use Rattle.blockfile.specs.Form.{only-if}
+use Rattle.numbers.specs.Form as Form
+use Rattle.numbers.specs.Form.{only-if}
 use Rattle.blockfile.specs.Record.{Block, form}
 use Rattle.blockfile.specs.File.{refused-at, known}
-use Rattle.blockfile.specs.Inner.{Put, Took, Missed, block-of}
+use Rattle.numbers.specs.Inner.{Put, Took, Missed}
+use Rattle.blockfile.specs.Inner.{block-of}
 use Rattle.blockfile.specs.declared.record.Head.{Head}
-use Rattle.blockfile.proofs.Writing.{put-none}
+use Rattle.numbers.proofs.Writing.{put-none}
 use Rattle.text.specs.Text.{refused-line}
 use Rattle.jobs.specs.Task.{Written, both, nothing, Done, done, bad}
 use Rattle.jobs.specs.Steps.{Place, outset, before, Step, wrote, wanted, number, mind, ending, falling, opened, acting, came, step}

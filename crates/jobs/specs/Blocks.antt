@@ -4,7 +4,7 @@ use mathlib.Core.List.{List, []}
 use Prim.Native.Nat.{ℕ}
 use lib.Dec.{eqb}
 use Rattle.itx.specs.Calls.{Outcome}
-use Rattle.blockfile.specs.Form.{number}
+use Rattle.numbers.specs.Form.{number}
 use Rattle.blockfile.specs.Record.{Block, form}
 use Rattle.blockfile.specs.File.{End, here, refused-at}
 use Rattle.text.specs.Text.{refused-line}

@@ -2,7 +2,7 @@
 -- change"; "Refusals .. end the run as in E1".
 use mathlib.Core.Bool.{false}
 use mathlib.Core.List.{[]}
-use Rattle.blockfile.specs.Form.{number}
+use Rattle.numbers.specs.Form.{number}
 use Rattle.blockfile.specs.Record.{form}
 use Rattle.mend.specs.Mend.{mend, changes-of, lines}
 use Rattle.jobs.specs.Task.{both, done, Task}

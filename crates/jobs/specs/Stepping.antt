@@ -5,7 +5,7 @@ use mathlib.Core.List.{List}
 use Prim.Native.Nat.{ℕ, zero, suc, _+_, _≤_}
 use lib.Dec.{leb}
 use lib.ListN.{length, drop}
-use Rattle.blockfile.specs.Inner.{Put}
+use Rattle.numbers.specs.Inner.{Put}
 use Rattle.tally.specs.Totals.{totals}
 use Rattle.tally.specs.Inner.{sums-of, sane}
 use Rattle.jobs.specs.Task.{Written, nothing}

@@ -4,7 +4,7 @@ use mathlib.Core.Bool.{Bool, cond, _&&_, not}
 use mathlib.Core.List.{List, [], _∷_}
 use Prim.Native.Nat.{ℕ, suc}
 use lib.Dec.{eqb}
-use Rattle.blockfile.specs.Read.{Read, got, refused}
+use Rattle.numbers.specs.Read.{Read, got, refused}
 use Rattle.blockfile.specs.Record.{Block, form}
 use Rattle.blockfile.specs.File.{End, here, refused-at, known}
 use Rattle.blockfile.specs.Inner.{first}

@@ -14,16 +14,15 @@ ghost use Rattle.jobs.specs.Stepping.{is-totals, sane-for, io, StepAt, p
 ghost use Rattle.jobs.specs.Jobs.{Mind, task-of};
 use act::act;
 use blockfile::is_known;
-use blockfile::number;
-use blockfile::number::Number;
-use blockfile::number::read_number;
-use blockfile::number::write_number;
 use blockfile::record::Found;
 use blockfile::record::Head;
 use blockfile::record::coefficient_count;
 use blockfile::record::read_record;
 use blockfile::record::write_record;
 use mend::salvage;
+use numbers::Number;
+use numbers::read_number;
+use numbers::write_number;
 use tally::add;
 use tally::are_sane;
 use tally::keep;
@@ -155,7 +154,7 @@ fn begin(
     let Number::Got { value, next } = first else {
         return fallen(
             job,
-            number::refusal(first),
+            numbers::refusal(first),
             is_last,
             0,
             output,

@@ -6,7 +6,7 @@ use Prim.Native.Nat.{ℕ}
 use lib.IntN.{ℤ}
 use Rattle.whole.specs.Checks.{Check, accept, refuse}
 use Rattle.bitdepth.specs.Depths.{row-range}
-use Rattle.blockfile.specs.Inner.{Put}
+use Rattle.numbers.specs.Inner.{Put}
 use Rattle.text.specs.Text.{decimal, signed, line}
 use Rattle.mend.specs.Mend.{moved, Change, mended, changes-in, lines}
 use Rattle.mend.specs.declared.RowRange.{RowRange}

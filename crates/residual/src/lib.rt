@@ -16,13 +16,13 @@ ghost use Rattle.residual.specs.Inner as Inner;
 use bitdepth::Depth;
 use bitdepth::Range;
 use intops::iclip;
+use lanes::dct;
+use levels::Kind;
+use levels::Plan;
 use passes::REV;
 use passes::identity_of;
 use passes::inv_1d;
 use passes::wht4;
-use lanes::dct;
-use levels::Kind;
-use levels::Plan;
 use spec_engine::inverse;
 
 // Whose passes a block goes through: the first engine's are the crate's (document 01), the second's are the AV1 specification's own steps (E8).

@@ -30,8 +30,8 @@ ghost use Rattle.passes.specs.Inner.{Reaches};
 ghost use Rattle.spec_engine.specs.Growth.{Workable};
 ghost use Rattle.spec_engine.specs.Lines as Lines;
 ghost use Rattle.spec_engine.specs.Arrays as Arrays;
-use passes::scatter;
 use levels::Kind;
+use passes::scatter;
 
 // ---- 7.13.2.1: butterfly functions
 

@@ -24,7 +24,7 @@ use Rattle.checks.specs.Table.{Block, Call, verdict}
 use Rattle.itx.specs.Calls.{outcome}
 use Rattle.checks.proofs.Verdicts.{accepted-by}
 use Rattle.itx.proofs.Numbers.{num, answer-num, refusal-number}
-use Rattle.blockfile.specs.Form.{Each}
+use Rattle.numbers.specs.Form.{Each}
 use Rattle.tally.specs.Totals.{Tally, sum, greatest, moves, totals, _⊕_, cell-w, cell-h, cell-type, in-cell}
 use Rattle.tally.specs.Inner.{one-if, is-of, all-cells, cells, Countable, Rank, CellOf}
 

@@ -13,8 +13,8 @@ use lib.Pow.{pow-mono}
 use lib.Seq.{take-suc, take-suc-set, take-all, drop-cons}
 use Rattle.whole.specs.Lists.{tab}
 use Rattle.whole.proofs.Counts.{tab-at, tab-ext, set-tab}
-use Rattle.blockfile.specs.Inner.{Put}
-use Rattle.blockfile.proofs.Writing.{put-then, leaves, put-none}
+use Rattle.numbers.specs.Inner.{Put}
+use Rattle.numbers.proofs.Writing.{put-then, leaves, put-none}
 use Rattle.text.specs.Text.{decimal, line}
 use Rattle.tally.specs.Totals.{Tally, sum, greatest, distances, moves, Totals, totals, _⊕_, cell-w, cell-h, cell-type, in-cell, cell-line, joined, headed, report}
 use Rattle.tally.specs.Inner.{one-if, distance, cells, sums-of, Paired, Kept, cell-lines, CellOf, Measured}

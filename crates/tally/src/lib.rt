@@ -4,7 +4,7 @@ ghost use mathlib.Core.List.{[], _∷_, _++_};
 ghost use Prim.Native.Nat.{_+_, _*_, _^_, _≤_, _<_, max};
 ghost use lib.ListN.{length, take};
 ghost use Rattle.levels.specs.Sides.{len, side};
-ghost use Rattle.blockfile.specs.Inner.{Put};
+ghost use Rattle.numbers.specs.Inner.{Put};
 ghost use Rattle.text.specs.Text.{decimal, line};
 ghost use Rattle.tally.specs.Totals as Totals;
 ghost use Rattle.tally.specs.Totals.{cell-line, distances, report};

@@ -12,11 +12,11 @@ use mir.Syntax.{w32}
 use mir.Val.{SFits}
 use Rattle.whole.specs.Lists.{at}
 use Rattle.demands.proofs.Outcomes.{coefs-each, coefs-length, pixels-most, pixels-length}
-use Rattle.blockfile.specs.Form.{number, write-each, Each}
+use Rattle.numbers.specs.Form.{number, write-each, Each}
 use Rattle.blockfile.specs.Record.{Block, area, count, form, Plain}
 use Rattle.blockfile.specs.declared.record.Head.{Head}
 use Rattle.blockfile.specs.File.{End, here, refused-at, Records, File, unknown, file, read-blocks, write-blocks}
-use Rattle.blockfile.proofs.Forms.{each-map, each-length}
+use Rattle.numbers.proofs.Forms.{each-map, each-length}
 use Rattle.blockfile.proofs.Records.{plain}
 use Rattle.blockfile.proofs.Files.{ReadAs, reads, blocks-back, blocks-only}
 use Rattle.act.specs.Rows.{spread, gathered, buffered, in-file}

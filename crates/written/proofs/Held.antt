@@ -7,8 +7,8 @@ use Prim.Native.Nat.{ℕ, _+_, _-_, _≤_}
 use native.Mathlib.Omega.{arith}
 use lib.ListN.{length, take, drop, length-take, length-drop, length-append}
 use lib.Seq.{take-add, sets-eq, take-at}
-use Rattle.blockfile.specs.Inner.{Put}
-use Rattle.blockfile.proofs.Writing.{put-length}
+use Rattle.numbers.specs.Inner.{Put}
+use Rattle.numbers.proofs.Writing.{put-length}
 use Rattle.jobs.specs.Task.{Written, both, nothing, ahead, Task, run}
 use Rattle.jobs.specs.Steps.{Place, outset}
 use Rattle.written.specs.Following.{remaining}

@@ -6,7 +6,7 @@ use Prim.Native.Nat.{ℕ, zero, suc, _+_, _-_, _≤_, _<_}
 use native.Mathlib.Omega.{arith}
 use native.Mathlib.Numerals.{add-one}
 use lib.ListN.{length, take, drop, replicate, length-take, length-drop}
-use Rattle.blockfile.proofs.Writing.{put-length}
+use Rattle.numbers.proofs.Writing.{put-length}
 use Rattle.tally.proofs.Tallies.{none-yet}
 use Rattle.jobs.specs.Task.{ahead}
 use Rattle.jobs.specs.Steps.{Place, before, Step, wrote, wanted, closed, number, mind, step}

@@ -36,11 +36,11 @@ use Rattle.demands.proofs.Visible.{whole-spotted}
 use Rattle.checks.proofs.Narrow.{left-out}
 use Rattle.demands.specs.Widths.{one-of}
 use Rattle.itx.proofs.Numbers.{num, answer-num, By, num-by, then-by, judged-by, depth-by, planned-by, early, late, passed, past-8}
-use Rattle.blockfile.specs.Form.{number, write-each, Each}
+use Rattle.numbers.specs.Form.{number, write-each, Each}
 use Rattle.blockfile.specs.Record.{Block, area, sized, count, Plain, form}
 use Rattle.blockfile.specs.declared.record.Head.{Head}
 use Rattle.blockfile.specs.File.{End, here, refused-at, file, read-blocks, write-blocks}
-use Rattle.blockfile.proofs.Forms.{each-length}
+use Rattle.numbers.proofs.Forms.{each-length}
 use Rattle.blockfile.proofs.Files.{blocks-back, blocks-only}
 use Rattle.act.specs.Rows.{spread, buffered}
 use Rattle.jobs.specs.Task.{Written, both, ahead, begun, told, told-file, run}

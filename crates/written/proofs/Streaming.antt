@@ -7,14 +7,14 @@ use native.Mathlib.Omega.{arith}
 use lib.Dec.{eqb}
 use lib.ListN.{length}
 use borrow.Author.Tests.{eqb-true, eqb-false}
-use Rattle.blockfile.specs.Read.{Read, got, refused}
+use Rattle.numbers.specs.Read.{Read, got, refused}
 use Rattle.blockfile.specs.Record.{Block, form}
 use Rattle.blockfile.specs.File.{here, refused-at, onward, records-in, records, known, read-file}
-use Rattle.blockfile.specs.Form.{only-if}
+use Rattle.numbers.specs.Form.{only-if}
 use Rattle.blockfile.specs.Inner.{first}
 use Rattle.blockfile.specs.File as File
-use Rattle.blockfile.proofs.Forms.{whole}
-use Rattle.blockfile.proofs.Rooms.{number-room, only-if-room}
+use Rattle.numbers.proofs.Forms.{whole}
+use Rattle.numbers.proofs.Rooms.{number-room, only-if-room}
 use Rattle.blockfile.proofs.Records.{form-lawful, form-room, some-form}
 use Rattle.blockfile.proofs.Files.{records-step, first-lawful}
 use Rattle.jobs.specs.Task.{Written, Done, done, bad, Task, begun, judged, told, told-file, run}

@@ -18,7 +18,7 @@ use Rattle.coefs.specs.Coefs.{Covers}
 use Rattle.itx.specs.Calls.{Outcome}
 use Rattle.itx.proofs.Numbers.{plain-never-10}
 use Rattle.demands.proofs.Demand3.{live-plain}
-use Rattle.blockfile.specs.Form.{Each}
+use Rattle.numbers.specs.Form.{Each}
 use Rattle.blockfile.specs.Record.{Block, count, Plain}
 use Rattle.blockfile.specs.File.{End, Records}
 use Rattle.blockfile.proofs.Records.{both}

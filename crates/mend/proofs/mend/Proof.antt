@@ -16,7 +16,7 @@ use Rattle.bitdepth.specs.Depths.{row-range}
 use Rattle.bitdepth.specs.declared.Range.{Range}
 use Rattle.bitdepth.proofs.Ends.{Reach, row-reach}
 use Rattle.bitdepth.proofs.Ends as Ends
-use Rattle.blockfile.proofs.Writing.{put-length}
+use Rattle.numbers.proofs.Writing.{put-length}
 use Rattle.mend.specs.Mend.{moved}
 use Rattle.mend.specs.Inner.{change-line}
 use Rattle.mend.proofs.Mending.{Mending, begin, as-long, finish, here, stays, moves, change-short}

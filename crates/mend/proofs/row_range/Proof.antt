@@ -7,12 +7,10 @@ use denote.Enum.Declared.{tagOf}
 use types.Run.{OneOf, miss}
 use borrow.Author.Needs.{needs}
 use Rattle.whole.specs.Checks.{Check, accept, refuse, then}
-use Rattle.bitdepth.specs.Depths.{depth, row-range}
-use Rattle.bitdepth.specs.Depths.{check-of}
+use Rattle.bitdepth.specs.Depths.{depth, row-range, check-of}
 use Rattle.bitdepth.specs.declared.Depth.{Depth}
 use Rattle.bitdepth.specs.declared.DepthCheck.{DepthCheck}
-use Rattle.levels.specs.Plans.{plan}
-use Rattle.levels.specs.Plans.{decision-of}
+use Rattle.levels.specs.Plans.{plan, decision-of}
 use Rattle.levels.specs.declared.Plan.{Plan}
 use Rattle.levels.specs.declared.Decision.{Decision}
 use Rattle.levels.specs.declared.Decision.the-variants.{Planned, NoSize, NoType}

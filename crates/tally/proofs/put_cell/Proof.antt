@@ -4,7 +4,7 @@ use Prim.Native.Nat.{ℕ, _+_, _%_, _≤_}
 use native.Mathlib.Omega.{arith}
 use borrow.Author.Needs.{needs}
 use lib.ListN.{length}
-use Rattle.blockfile.proofs.Writing.{leaves}
+use Rattle.numbers.proofs.Writing.{leaves}
 use Rattle.text.specs.Text.{decimal}
 use Rattle.text.proofs.Texts.{decimal-short}
 use Rattle.tally.proofs.Tallies.{number-short, no-line, cell-line-is}

@@ -2,7 +2,7 @@
 use Prim.Native.Nat.{_+_, _-_}
 use native.Mathlib.Omega.{arith}
 use borrow.Author.Needs.{needs}
-use Rattle.blockfile.proofs.Writing.{put-length}
+use Rattle.numbers.proofs.Writing.{put-length}
 use Rattle.tally.proofs.Tallies.{Listing, begin-cells, next-cell, finish-cells}
 use Rattle.tally.proofs.put_cells.Statement.{statement}
 use Rattle.tally.proofs.put_cells.Tie as tie

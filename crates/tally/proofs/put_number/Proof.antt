@@ -1,7 +1,7 @@
 -- `tally::put_number` meets its contract.
 use native.Mathlib.Omega.{arith}
 use borrow.Author.Needs.{needs}
-use Rattle.blockfile.proofs.Writing.{put-then, put-length}
+use Rattle.numbers.proofs.Writing.{put-then, put-length}
 use Rattle.text.proofs.Texts.{put-one}
 use Rattle.tally.proofs.put_number.Statement.{statement}
 use Rattle.tally.proofs.put_number.Tie as tie

@@ -1,6 +1,6 @@
 -- `tally::put_report` meets its contract: four totals and the cells are put one after another.
 use borrow.Author.Needs.{needs}
-use Rattle.blockfile.proofs.Writing.{put-then}
+use Rattle.numbers.proofs.Writing.{put-then}
 use Rattle.tally.proofs.Tallies.{report-by}
 use Rattle.tally.proofs.put_report.Statement.{statement}
 use Rattle.tally.proofs.put_report.Tie as tie

@@ -5,8 +5,8 @@ use native.Mathlib.Omega.{arith}
 use borrow.Author.Needs.{needs}
 use lib.ListN.{length, take}
 use lib.Seq.{take-all}
-use Rattle.blockfile.specs.Inner.{Put}
-use Rattle.blockfile.proofs.Writing.{put-length}
+use Rattle.numbers.specs.Inner.{Put}
+use Rattle.numbers.proofs.Writing.{put-length}
 use Rattle.text.proofs.Texts.{put-next}
 use Rattle.text.proofs.put_bytes.Statement.{statement}
 use Rattle.text.proofs.put_bytes.Tie as tie

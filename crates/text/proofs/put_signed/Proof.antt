@@ -4,7 +4,7 @@ use native.Mathlib.Omega.{arith}
 use borrow.Author.Needs.{needs}
 use lib.ListN.{length, length-set}
 use Rattle.whole.proofs.Signs.{Negative, negative, Natural, natural}
-use Rattle.blockfile.proofs.Writing.{put-then, put-length}
+use Rattle.numbers.proofs.Writing.{put-then, put-length}
 use Rattle.text.proofs.Texts.{signed-below, signed-above, put-one}
 use Rattle.text.proofs.put_signed.Statement.{statement}
 use Rattle.text.proofs.put_signed.Tie as tie

@@ -3,7 +3,7 @@ use Prim.Native.Nat.{_+_, _≤_}
 use native.Mathlib.Omega.{arith}
 use borrow.Author.Needs.{needs}
 use lib.ListN.{length}
-use Rattle.blockfile.proofs.Writing.{put-then, leaves}
+use Rattle.numbers.proofs.Writing.{put-then, leaves}
 use Rattle.text.specs.Text.{decimal, line, refused-line}
 use Rattle.text.proofs.Texts.{decimal-short}
 use Rattle.text.proofs.refused_line.Statement.{statement}

@@ -5,10 +5,10 @@ use mathlib.Core.List.{List}
 use Prim.Native.Nat.{ℕ}
 use borrow.Author.Needs.{needs}
 use borrow.Author.Tests.{not-true, not-false}
-use Rattle.blockfile.specs.Read.{refused}
-use Rattle.blockfile.specs.Form.{number}
+use Rattle.numbers.specs.Read.{refused}
+use Rattle.numbers.specs.Form.{number}
 use Rattle.blockfile.specs.Record.{sized, size, fifth, head-of}
-use Rattle.blockfile.specs.Inner.{Took, NumberAt, number-refusal}
+use Rattle.numbers.specs.Inner.{Took, NumberAt, number-refusal}
 use Rattle.blockfile.proofs.record.read_head.Statement.{statement}
 use Rattle.blockfile.proofs.record.read_head.Tie as tie
 

@@ -5,11 +5,12 @@ use Prim.Native.Nat.{_≤_}
 use native.Mathlib.Omega.{arith}
 use borrow.Author.Needs.{needs}
 use lib.ListN.{take}
-use Rattle.blockfile.specs.Read.{refused}
-use Rattle.blockfile.specs.Form.{times}
+use Rattle.numbers.specs.Read.{refused}
+use Rattle.numbers.specs.Form.{times}
 use Rattle.blockfile.specs.Record.{area, coefficient, count, announces, head-of, form}
 use Rattle.blockfile.specs.declared.record.Head.{Head}
-use Rattle.blockfile.specs.Inner.{Took, HeadAt, EachAt, head-refusal, place-refusal}
+use Rattle.numbers.specs.Inner.{Took}
+use Rattle.blockfile.specs.Inner.{HeadAt, EachAt, head-refusal, place-refusal}
 use Rattle.blockfile.proofs.Records.{area-most, head-lawful}
 use Rattle.blockfile.proofs.record.read_record.Statement.{statement}
 use Rattle.blockfile.proofs.record.read_record.Tie as tie

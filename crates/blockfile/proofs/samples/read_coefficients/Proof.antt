@@ -7,7 +7,7 @@ use mir.ValLaws.{toZ-ofZ}
 use native.Mathlib.Omega.{arith}
 use borrow.Author.Needs.{needs}
 use Rattle.blockfile.specs.Record.{coefficient}
-use Rattle.blockfile.specs.Inner.{NumberAt}
+use Rattle.numbers.specs.Inner.{NumberAt}
 use Rattle.blockfile.proofs.Fill.{Filling, begin, ended, refusing, one-more}
 use Rattle.blockfile.proofs.samples.read_coefficients.Statement.{statement}
 use Rattle.blockfile.proofs.samples.read_coefficients.Tie as tie

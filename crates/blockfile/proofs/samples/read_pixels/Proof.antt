@@ -5,7 +5,7 @@ use native.Mathlib.Omega.{arith}
 use borrow.Author.Needs.{needs}
 use borrow.Author.Tests.{le-leb, lt-leb}
 use Rattle.blockfile.specs.Record.{pixel}
-use Rattle.blockfile.specs.Inner.{NumberAt}
+use Rattle.numbers.specs.Inner.{NumberAt}
 use Rattle.blockfile.proofs.Fill.{Filling, begin, ended, refusing, one-more}
 use Rattle.blockfile.proofs.samples.read_pixels.Statement.{statement}
 use Rattle.blockfile.proofs.samples.read_pixels.Tie as tie

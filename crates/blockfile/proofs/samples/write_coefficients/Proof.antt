@@ -7,11 +7,11 @@ use lib.IntN.{pos}
 use lib.ListN.{length, getD}
 use mir.Syntax.{w32}
 use mir.ValLaws.{toZ-ofZ}
-use Rattle.blockfile.specs.Form.{number}
-use Rattle.blockfile.specs.Zigzag.{zig}
+use Rattle.numbers.specs.Form.{number}
+use Rattle.numbers.specs.Zigzag.{zig}
 use Rattle.blockfile.specs.Record.{coefficient}
-use Rattle.blockfile.proofs.Numbers.{number-short}
-use Rattle.blockfile.proofs.Writing.{Writing, begin, one-more, finish}
+use Rattle.numbers.proofs.Numbers.{number-short}
+use Rattle.numbers.proofs.Writing.{Writing, begin, one-more, finish}
 use Rattle.blockfile.proofs.samples.write_coefficients.Statement.{statement}
 use Rattle.blockfile.proofs.samples.write_coefficients.Tie as tie
 

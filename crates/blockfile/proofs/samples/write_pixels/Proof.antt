@@ -5,8 +5,8 @@ use native.Mathlib.Omega.{arith}
 use borrow.Author.Needs.{needs}
 use lib.ListN.{length, getD}
 use Rattle.blockfile.specs.Record.{pixel}
-use Rattle.blockfile.proofs.Numbers.{number-short}
-use Rattle.blockfile.proofs.Writing.{Writing, begin, one-more, finish}
+use Rattle.numbers.proofs.Numbers.{number-short}
+use Rattle.numbers.proofs.Writing.{Writing, begin, one-more, finish}
 use Rattle.blockfile.proofs.samples.write_pixels.Statement.{statement}
 use Rattle.blockfile.proofs.samples.write_pixels.Tie as tie
 

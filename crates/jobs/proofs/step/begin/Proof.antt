@@ -3,11 +3,11 @@ use mathlib.Core.Path.{_≡_, sym, ap, subst, _∙_}
 use mathlib.Core.Bool.{true}
 use native.Mathlib.Omega.{arith}
 use borrow.Author.Tests.{not-true, not-false}
-use Rattle.blockfile.specs.Read.{refused}
-use Rattle.blockfile.specs.Form.{number}
+use Rattle.numbers.specs.Read.{refused}
+use Rattle.numbers.specs.Form.{number}
 use Rattle.blockfile.specs.File.{known}
-use Rattle.blockfile.specs.Inner.{Took, NumberAt, number-refusal}
-use Rattle.blockfile.proofs.Writing.{put-none}
+use Rattle.numbers.specs.Inner.{Took, NumberAt, number-refusal}
+use Rattle.numbers.proofs.Writing.{put-none}
 use Rattle.jobs.proofs.Turns.{no-first, unknown-first, known-first}
 use borrow.Author.Needs.{needs}
 use Rattle.jobs.proofs.step.begin.Statement.{statement}

@@ -7,7 +7,7 @@ use native.Mathlib.Omega.{arith}
 use borrow.Author.Tests.{eq-eqb, ne-eqb, not-true}
 use Rattle.jobs.specs.Jobs.{task-of}
 use Rattle.jobs.specs.Steps.{wanted, mind, falling}
-use Rattle.blockfile.proofs.Writing.{put-none}
+use Rattle.numbers.proofs.Writing.{put-none}
 use Rattle.jobs.proofs.Turns.{put-both}
 use borrow.Author.Needs.{needs}
 use Rattle.jobs.proofs.step.fallen.Statement.{statement}

@@ -5,13 +5,14 @@ use mathlib.Core.Logic.{⊎-elim}
 use Prim.Native.Nat.{_≤_, _<_}
 use native.Mathlib.Omega.{arith}
 use lib.ListN.{length, length-take}
-use Rattle.blockfile.specs.Inner.{Took, fronted, RecordAt}
+use Rattle.numbers.specs.Inner.{Took}
+use Rattle.blockfile.specs.Inner.{fronted, RecordAt}
 use Rattle.blockfile.specs.Record.{area, form, Plain}
 use Rattle.blockfile.specs.declared.record.Head.{Head}
 use Rattle.blockfile.proofs.Records.{area-most, form-lawful, plain}
 use Rattle.jobs.specs.Jobs.{task-of}
 use Rattle.jobs.specs.Steps.{wanted}
-use Rattle.blockfile.proofs.Writing.{put-none}
+use Rattle.numbers.proofs.Writing.{put-none}
 use Rattle.jobs.proofs.Turns.{put-both, past-record, end-record, more-record, refused-record, did}
 use borrow.Author.Needs.{needs}
 use Rattle.jobs.proofs.step.go_on.Statement.{statement}

@@ -6,11 +6,11 @@ use mathlib.Core.List.{List, [], _∷_}
 use Prim.Native.Nat.{ℕ, zero, suc, _+_, _*_, _≤_, _<_}
 use native.Mathlib.Omega.{arith}
 use lib.ListN.{length, length-append}
-use Rattle.blockfile.specs.Read.{got, refused, and-then}
-use Rattle.blockfile.specs.Form.{Form, number, only-if, called, followed, write-each, read-each, times, Each}
-use Rattle.blockfile.proofs.Readings.{refused-number, never, Fell, early, late, fell}
-use Rattle.blockfile.proofs.Numbers.{number-short, number-enough}
-use Rattle.blockfile.proofs.Forms.{Lawful, tested, named, second}
+use Rattle.numbers.specs.Read.{got, refused, and-then}
+use Rattle.numbers.specs.Form.{Form, number, only-if, called, followed, write-each, read-each, times, Each}
+use Rattle.numbers.proofs.Readings.{refused-number, never, Fell, early, late, fell}
+use Rattle.numbers.proofs.Numbers.{number-short, number-enough}
+use Rattle.numbers.proofs.Forms.{Lawful, tested, named, second}
 
 -- W says which values can be written
 pub record Room {A : Type 0} (c : Form A) (W : A → Type 0) (n : ℕ) : Type 0 where

@@ -1,10 +1,10 @@
--- `number::last_group` meets its contract.
+-- `last_group` meets its contract.
 use mathlib.Core.Logic.{⊎-elim}
 use borrow.Author.Needs.{needs}
 use borrow.Author.Tests.{lt-ltb, le-ltb, eq-eqb, ne-eqb}
-use Rattle.blockfile.specs.Inner.{last-group}
-use Rattle.blockfile.proofs.number.last_group.Statement.{statement}
-use Rattle.blockfile.proofs.number.last_group.Tie as tie
+use Rattle.numbers.specs.Inner.{last-group}
+use Rattle.numbers.proofs.last_group.Statement.{statement}
+use Rattle.numbers.proofs.last_group.Tie as tie
 
 returns : tie.Need-returns
 unfolding last-group

@@ -8,7 +8,7 @@ use lib.Dec.{eqb}
 use lib.IntN.{ℤ, pos, negsuc}
 use mir.Syntax.{w32}
 use mir.Val.{SFits}
-use Rattle.blockfile.specs.Zigzag.{zig, zag}
+use Rattle.numbers.specs.Zigzag.{zig, zag}
 
 pub zag-even : (n : ℕ) → n % 2 ≡ 0 → zag n ≡ pos (n / 2)
 unfolding zag

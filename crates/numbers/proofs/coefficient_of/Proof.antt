@@ -1,4 +1,4 @@
--- `number::coefficient_of` meets its contract.
+-- `coefficient_of` meets its contract.
 use mathlib.Core.Path.{_≡_, sym, ap, _∙_}
 use Prim.Native.Nat.{ℕ, _/_, _<_}
 use native.Mathlib.Omega.{arith}
@@ -6,10 +6,10 @@ use lib.IntN.{ℤ, negsuc, _-ℤ_}
 use mir.Syntax.{w32}
 use mir.Val.{toZ, ofZ}
 use mir.ValLaws.{toZ-pos, toZ-ofZ}
-use Rattle.blockfile.proofs.Zigzags.{zag-even, zag-odd}
+use Rattle.numbers.proofs.Zigzags.{zag-even, zag-odd}
 use Rattle.whole.proofs.Signs.{turned-pos}
-use Rattle.blockfile.proofs.number.coefficient_of.Statement.{statement}
-use Rattle.blockfile.proofs.number.coefficient_of.Tie as tie
+use Rattle.numbers.proofs.coefficient_of.Statement.{statement}
+use Rattle.numbers.proofs.coefficient_of.Tie as tie
 
 -- what the code has after both steps
 turned : (n : ℕ) → n < 4294967296 → negsuc 0 -ℤ toZ w32 (n / 2) ≡ negsuc (n / 2)

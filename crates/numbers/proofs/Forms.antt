@@ -4,10 +4,10 @@ use mathlib.Core.Bool.{Bool, true, cond}
 use mathlib.Core.List.{List, [], _∷_, _++_, append-assoc}
 use Prim.Native.Nat.{ℕ, zero, suc, _<_}
 use lib.ListN.{length}
-use Rattle.blockfile.specs.Read.{Read, got, refused, and-then}
-use Rattle.blockfile.specs.Form.{Form, number, only-if, called, followed, write-each, read-each, times, Each}
-use Rattle.blockfile.proofs.Readings.{got-value, got-rest, never, Stays, steps, and-then-stays, passed, test-stays}
-use Rattle.blockfile.proofs.Numbers.{number-back, number-only, number-stays}
+use Rattle.numbers.specs.Read.{Read, got, refused, and-then}
+use Rattle.numbers.specs.Form.{Form, number, only-if, called, followed, write-each, read-each, times, Each}
+use Rattle.numbers.proofs.Readings.{got-value, got-rest, never, Stays, steps, and-then-stays, passed, test-stays}
+use Rattle.numbers.proofs.Numbers.{number-back, number-only, number-stays}
 
 pub record Lawful {A : Type 0} (c : Form A) (Writable : A → Type 0) : Type 0 where
   -- what was written is read back

@@ -2,9 +2,9 @@
 ghost use mathlib.Core.Path.{_≡_};
 ghost use Prim.Native.Nat.{_+_, _*_, _≤_, _<_};
 ghost use lib.ListN.{length};
-ghost use Rattle.blockfile.specs.Form.{number};
-ghost use Rattle.blockfile.specs.Zigzag.{zig, zag};
-ghost use Rattle.blockfile.specs.Inner.{NumberAt, last-group, number-refusal, Put};
+ghost use Rattle.numbers.specs.Form.{number};
+ghost use Rattle.numbers.specs.Zigzag.{zig, zag};
+ghost use Rattle.numbers.specs.Inner.{NumberAt, last-group, number-refusal, Put};
 
 // A number and the place after it, or the number of a refusal.
 pub enum Number {

@@ -4,7 +4,7 @@ use mathlib.Core.Bool.{cond}
 use mathlib.Core.List.{List, [], _∷_}
 use Prim.Native.Nat.{ℕ, zero, suc, _+_, _-_, _*_, _/_, _%_}
 use lib.Dec.{ltb}
-use Rattle.blockfile.specs.Read.{Read, got, refused}
+use Rattle.numbers.specs.Read.{Read, got, refused}
 
 -- What a group b with its top bit set makes of the number after it. A zero there is the needless group; it is met only after the number
 -- was read to its end, so 16 comes first.

@@ -7,10 +7,10 @@ use native.Mathlib.Omega.{arith}
 use lib.Dec.{ltb}
 use lib.ListN.{length}
 use borrow.Author.Tests.{ltb-true, ltb-false, lt-ltb, le-ltb}
-use Rattle.blockfile.specs.Read.{Read, got, refused}
-use Rattle.blockfile.specs.Number.{carry, groups, digits}
-use Rattle.blockfile.specs.Form.{number}
-use Rattle.blockfile.proofs.Readings.{got-value, got-rest, refused-number, never, Stays}
+use Rattle.numbers.specs.Read.{Read, got, refused}
+use Rattle.numbers.specs.Number.{carry, groups, digits}
+use Rattle.numbers.specs.Form.{number}
+use Rattle.numbers.proofs.Readings.{got-value, got-rest, refused-number, never, Stays}
 
 -- what `left` groups and one more can hold: 16, 2048, .., and 4294967296 at 4
 unfoldable pub top : ℕ → ℕ

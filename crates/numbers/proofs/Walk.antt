@@ -10,12 +10,12 @@ use lib.Dec.{eqb, ltb}
 use lib.ListN.{length, getD, drop, drop-of-length-le}
 use lib.Seq.{drop-cons}
 use borrow.Author.Tests.{lt-ltb, le-ltb, ne-eqb}
-use Rattle.blockfile.specs.Read.{Read, got, refused}
-use Rattle.blockfile.specs.Number.{groups, carry}
-use Rattle.blockfile.specs.declared.number.Number.the-variants.{Got, Refused}
-use Rattle.blockfile.specs.Form.{number}
-use Rattle.blockfile.specs.Inner.{NumberAt, last-group}
-use Rattle.blockfile.proofs.Numbers.{top, top-pos}
+use Rattle.numbers.specs.Read.{Read, got, refused}
+use Rattle.numbers.specs.Number.{groups, carry}
+use Rattle.numbers.specs.declared.Number.the-variants.{Got, Refused}
+use Rattle.numbers.specs.Form.{number}
+use Rattle.numbers.specs.Inner.{NumberAt, last-group}
+use Rattle.numbers.proofs.Numbers.{top, top-pos}
 
 -- what groups that came to `value`, the next of which counts `scale`, make of the number after them
 unfoldable pub folded : ℕ → ℕ → Read ℕ → Read ℕ

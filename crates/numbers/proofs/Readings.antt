@@ -4,7 +4,7 @@ use mathlib.Core.Bool.{Bool, true, false, cond}
 use mathlib.Core.List.{List, _++_}
 use Prim.Native.Nat.{ℕ}
 use native.Mathlib.Omega.{arith}
-use Rattle.blockfile.specs.Read.{Read, got, refused, and-then}
+use Rattle.numbers.specs.Read.{Read, got, refused, and-then}
 
 pub got-value : {A : Type 0} {a b : A} {r s : List ℕ} → got a r ≡ got b s → a ≡ b
 got-value e = cc

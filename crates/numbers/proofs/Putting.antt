@@ -7,10 +7,10 @@ use native.Mathlib.Numerals.{add-one}
 use lib.ListN.{length, set, length-set}
 use lib.Seq.{sets}
 use borrow.Author.Tests.{lt-ltb, le-ltb}
-use Rattle.blockfile.specs.Number.{digits}
-use Rattle.blockfile.specs.Form.{number}
-use Rattle.blockfile.specs.Inner.{Put}
-use Rattle.blockfile.proofs.Numbers.{top}
+use Rattle.numbers.specs.Number.{digits}
+use Rattle.numbers.specs.Form.{number}
+use Rattle.numbers.specs.Inner.{Put}
+use Rattle.numbers.proofs.Numbers.{top}
 
 -- `left`: how many groups may come before the last
 pub record Putting (s₀ : List ℕ) (at n₀ : ℕ) (s : List ℕ) (n i : ℕ) : Type 0 where

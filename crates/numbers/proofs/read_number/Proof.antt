@@ -1,14 +1,14 @@
--- `number::read_number` meets its contract: the invariant is `Reading`.
+-- `read_number` meets its contract: the invariant is `Reading`.
 use mathlib.Core.Path.{sym, subst}
 use Prim.Native.Nat.{ℕ, _+_, _-_, _*_}
 use native.Mathlib.Omega.{arith}
 use lib.ListN.{getD}
 use mir.Syntax.{w32}
 use mir.Val.{Fits}
-use Rattle.blockfile.specs.Inner.{NumberAt}
-use Rattle.blockfile.proofs.Walk.{Reading, start, ended, highest-last, highest-large, later-last, go-on, fits-highest, fits-later, scale-most}
-use Rattle.blockfile.proofs.number.read_number.Statement.{statement}
-use Rattle.blockfile.proofs.number.read_number.Tie as tie
+use Rattle.numbers.specs.Inner.{NumberAt}
+use Rattle.numbers.proofs.Walk.{Reading, start, ended, highest-last, highest-large, later-last, go-on, fits-highest, fits-later, scale-most}
+use Rattle.numbers.proofs.read_number.Statement.{statement}
+use Rattle.numbers.proofs.read_number.Tie as tie
 
 abbrev Inv-loop : tie.InvT-loop
 Inv-loop s at i₀ left₀ value₀ scale₀ i left value scale = Reading s at i left value scale

@@ -2,8 +2,8 @@
 use mathlib.Core.Bool.{Bool, cond}
 use mathlib.Core.List.{List, [], _∷_, _++_, foldr}
 use Prim.Native.Nat.{ℕ, zero, suc}
-use Rattle.blockfile.specs.Read.{Read, got, refused, and-then}
-use Rattle.blockfile.specs.Number.{groups, digits}
+use Rattle.numbers.specs.Read.{Read, got, refused, and-then}
+use Rattle.numbers.specs.Number.{groups, digits}
 
 pub record Form (A : Type 0) : Type 0 where
   pub write : A → List ℕ

@@ -1,12 +1,12 @@
--- `number::number_of` meets its contract.
+-- `number_of` meets its contract.
 use mathlib.Core.Path.{sym, ap, _∙_}
 use Prim.Native.Nat.{_+_, _*_}
 use native.Mathlib.Omega.{arith}
 use lib.IntN.{ℤ, natAbs}
-use Rattle.blockfile.specs.Zigzag.{zig}
+use Rattle.numbers.specs.Zigzag.{zig}
 use Rattle.whole.proofs.Signs.{Negative, negative, Natural, natural}
-use Rattle.blockfile.proofs.number.number_of.Statement.{statement}
-use Rattle.blockfile.proofs.number.number_of.Tie as tie
+use Rattle.numbers.proofs.number_of.Statement.{statement}
+use Rattle.numbers.proofs.number_of.Tie as tie
 
 below : (c : tie.Then1) → Negative (c .before .args .v)
 below c = negative (c .before .args .v) (c .before .fits .v) (c .if1 .taken)

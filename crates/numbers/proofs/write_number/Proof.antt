@@ -1,9 +1,9 @@
--- `number::write_number` meets its contract: the invariant is `Putting`.
+-- `write_number` meets its contract: the invariant is `Putting`.
 use native.Mathlib.Omega.{arith}
 use lib.ListN.{length-set}
-use Rattle.blockfile.proofs.Putting.{Putting, begin, one-more, finish}
-use Rattle.blockfile.proofs.number.write_number.Statement.{statement}
-use Rattle.blockfile.proofs.number.write_number.Tie as tie
+use Rattle.numbers.proofs.Putting.{Putting, begin, one-more, finish}
+use Rattle.numbers.proofs.write_number.Statement.{statement}
+use Rattle.numbers.proofs.write_number.Tie as tie
 
 abbrev Inv-loop : tie.InvT-loop
 Inv-loop out₀ at n n₀ i₀ out n' i = Putting out₀ at n out n' i
