@@ -21,7 +21,7 @@ use Rattle.bitdepth.specs.declared.Depth.the-variants.{Eight, Ten, Twelve}
 use Rattle.bitdepth.specs.Depths.{row-range, maximum}
 use Rattle.levels.specs.declared.Plan.{Plan}
 use Rattle.strided.specs.declared.Spot.{Spot}
-use Rattle.pixels.specs.Above.{above, first-above}
+use Rattle.above.specs.Above.{above, first-above}
 use Rattle.checks.specs.Table.{out-of-range}
 
 -- a line that finds nothing can be left out

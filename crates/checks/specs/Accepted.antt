@@ -11,7 +11,7 @@ use Rattle.bitdepth.specs.Depths.{depth, maximum}
 use Rattle.levels.specs.declared.Plan.{Plan}
 use Rattle.levels.specs.Plans.{plan}
 use Rattle.strided.specs.Planes.{Spotted, lies}
-use Rattle.pixels.specs.Above.{first-above}
+use Rattle.above.specs.Above.{first-above}
 use Rattle.checks.specs.Table.{Block, Call, bad-eob, bad-rows, out-of-range, stray}
 
 -- none of the numbers 1 to 10, 20 and 21 holds

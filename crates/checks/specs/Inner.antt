@@ -9,7 +9,7 @@ use Rattle.whole.specs.Checks.{Check, accept, refuse}
 use Rattle.bitdepth.specs.declared.Depth.{Depth}
 use Rattle.levels.specs.declared.Plan.{Plan}
 use Rattle.strided.specs.declared.Spot.{Spot}
-use Rattle.pixels.specs.Inner.{Looking}
+use Rattle.above.specs.Inner.{Looking}
 use Rattle.coefs.specs.Inner.{Alike}
 use Rattle.checks.specs.Table.{Call, plain, live, with-adst, short, live-rows}
 use Rattle.checks.specs.declared.Hint.{Hint}

@@ -16,7 +16,7 @@ use Rattle.bitdepth.specs.Depths.{depth, row-range, maximum}
 use Rattle.levels.specs.declared.Plan.{Plan}
 use Rattle.levels.specs.Plans.{plan}
 use Rattle.coefs.specs.Coefs.{in-dead-row}
-use Rattle.pixels.specs.Above.{first-above}
+use Rattle.above.specs.Above.{first-above}
 use Rattle.strided.specs.Planes.{Plane, spot, lies, bad-view, bad-stride, spot-outside}
 use Rattle.strided.specs.declared.Spot.{Spot}
 use Rattle.strided.specs.declared.View.{View}

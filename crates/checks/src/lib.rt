@@ -25,7 +25,7 @@ use intops::Found;
 use levels::Decision;
 use levels::Kind;
 use levels::Plan;
-use pixels::first_above;
+use above::first_above;
 use strided::Spot;
 use strided::SpotCheck;
 use strided::View;

@@ -22,7 +22,7 @@ use Rattle.levels.proofs.Sizes.{plan-of}
 use Rattle.strided.specs.Planes.{lies, spot-outside, place}
 use Rattle.residual.specs.Blocks.{way, shortcut}
 use Rattle.pixels.specs.Adds.{add-pixel}
-use Rattle.pixels.proofs.Above.{above-alike}
+use Rattle.above.proofs.Above.{above-alike}
 use Rattle.checks.specs.Table.{Block, Call, table, verdict, short, live-rows}
 use Rattle.itx.specs.Calls.{outcome-of, outcome}
 use Rattle.checks.specs.Accepted.{Accepted}

@@ -27,7 +27,7 @@ use Rattle.whole.proofs.Clips.{by-test}
 use Rattle.bitdepth.specs.Depths.{maximum}
 use Rattle.strided.specs.Planes.{Plane, Spotted, lies}
 use lib.ListN.{length}
-use Rattle.pixels.specs.Above.{first-above}
+use Rattle.above.specs.Above.{first-above}
 use Rattle.levels.specs.Plans.{plan}
 use Rattle.demands.specs.Visible.{over}
 

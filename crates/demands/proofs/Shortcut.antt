@@ -38,7 +38,7 @@ use Rattle.demands.specs.Demands.{Alone, whole}
 use Rattle.coefs.specs.Coefs.{Covers}
 use Rattle.itx.proofs.LiveRows.{prescale-zero}
 use Rattle.pixels.proofs.Pixels.{pixel-waits, rows-ext}
-use Rattle.pixels.proofs.Above.{none-above}
+use Rattle.above.proofs.Above.{none-above}
 use Rattle.demands.proofs.Sameness.{rows-whole, opened}
 use Rattle.checks.proofs.Covering.{sides, area-positive}
 

@@ -29,7 +29,7 @@ use Rattle.strided.specs.declared.Width.{Width}
 use Rattle.strided.specs.declared.Width.the-variants.{Wide, Narrow}
 use Rattle.strided.specs.Planes.{odd, in-pixels, not-in, within, lies, row-start}
 use Rattle.strided.proofs.Rows.{columns-in, rows-in, row-here}
-use Rattle.pixels.proofs.Above.{none-above, no-above}
+use Rattle.above.proofs.Above.{none-above, no-above}
 use Rattle.checks.specs.Table.{Block, Call, plain, live, bad-eob, bad-rows, stray, verdict}
 use Rattle.checks.specs.Accepted.{Accepted}
 use Rattle.demands.specs.Demands.{Announces, Even, NoNumber}

@@ -23,8 +23,8 @@ use Rattle.strided.specs.Planes.{Plane, whole, in-pixels, bad-view, bad-stride,
 use Rattle.strided.specs.declared.Width.the-variants.{Wide}
 use Rattle.strided.proofs.Rows.{columns-in, rows-in, all-inside}
 use Rattle.pixels.specs.Adds.{add-pixel}
-use Rattle.pixels.specs.Above.{first-above}
-use Rattle.pixels.proofs.Above.{row-of, column-of, none-above, no-above}
+use Rattle.above.specs.Above.{first-above}
+use Rattle.above.proofs.Above.{row-of, column-of, none-above, no-above}
 use Rattle.checks.specs.Table.{Block, Call, bad-eob, bad-rows, range-line, stray-line, pixel-line, table, verdict}
 use Rattle.itx.specs.Calls.{outcome}
 use Rattle.checks.specs.Accepted.{Accepted}

@@ -20,7 +20,7 @@ use Rattle.whole.proofs.Sizes.{abs-neg}
 use Rattle.bitdepth.specs.declared.Depth.{Depth}
 use Rattle.bitdepth.specs.Depths.{depth, row-range, maximum}
 use Rattle.strided.specs.Planes.{Plane, Spotted, lies, place}
-use Rattle.pixels.proofs.Above.{no-above}
+use Rattle.above.proofs.Above.{no-above}
 use Rattle.strided.proofs.Rows.{columns-in, rows-in}
 use Rattle.residual.specs.Blocks.{way, row, column, residual, shortcut}
 use Rattle.residual.specs.Inner.{wht-plan}

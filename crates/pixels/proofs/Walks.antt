@@ -1,51 +1,21 @@
--- What the loops find at a row of a block, and at a pixel of a row: in 16 bits and in 8.
+-- What the loops that add find at a row of a block, and at a pixel of a row: in 16 bits and in 8.
 use mathlib.Core.Path.{_≡_, ap, _∙_, subst⁻¹}
 use mathlib.Core.Bool.{false}
 use mathlib.Core.List.{List}
 use Prim.Native.Nat.{ℕ, _+_, _*_, _≤_, _<_}
-use native.Mathlib.Omega.{arith}
-use lib.Dec.{T}
 use lib.IntN.{ℤ, natAbs}
 use lib.ListN.{length}
-use lib.Signed.{nonNeg}
 use mir.Syntax.{w32, w64}
-use mir.Val.{Fits, SFits}
+use mir.Val.{SFits}
 use mir.ValLaws.{toZ-ofZ}
-use Rattle.whole.proofs.Parts.{nn}
 use Rattle.levels.specs.declared.Kind.{Kind}
 use Rattle.strided.specs.declared.Spot.{Spot}
 use Rattle.strided.specs.Planes.{starts, begins, spot-outside}
-use Rattle.strided.proofs.Casts.{read, to-usize}
-use Rattle.strided.proofs.Rows.{row-here}
+use Rattle.strided.proofs.Casts.{read}
+use Rattle.strided.proofs.Walks.{Row, found-row, place, in-slice}
 use Rattle.pixels.specs.Adds.{add-row}
 use Rattle.pixels.specs.Inner.{left, RowAdds, Adding}
 use Rattle.pixels.proofs.Pixels.{left-small, RowsTo, rows-long, rows-next}
-
--- ---- a row
-
--- row y of a block in a slice of `size` pixels; a local holds its start, z
-pub record Row (spot : Spot) (size y : ℕ) (z : ℤ) : Type 0 where
-  pub low : y ≤ 32
-  pub is : read w64 z ≡ starts (spot .offset) (spot .stride .0) y
-  above : nn (starts (spot .offset) (spot .stride .0) y) ≡ 0
-  pub within : begins spot y + spot .columns ≤ size
-
-pub found-row : (spot : Spot) (size y : ℕ) {z : ℤ} → spot .rows ≤ 32 → spot-outside size spot ≡ false → y < spot .rows
-    → SFits w64 z → z ≡ starts (spot .offset) (spot .stride .0) y → Row spot size y z
-found-row spot size y {z} h o l f e =
-    let r = row-here size spot o y l in record { low = omega arith; is = toZ-ofZ w64 z f ∙ e; above = r .0; within = r .1 }
-
-module _ {spot : Spot} {size y : ℕ} {z : ℤ} (r : Row spot size y z) where
-  pub place : natAbs (read w64 z) ≡ begins spot y
-  place = ap natAbs (r .is)
-
-  -- what a cast of the start asks
-  pub counted : size < 18446744073709551616 → T (nonNeg (read w64 z)) × Fits w64 (natAbs (read w64 z))
-  counted g = to-usize _ _ (r .is) (r .above) (omega arith)
-
-  -- the slice is still as long
-  pub in-slice : {now : ℕ} → now ≡ size → natAbs (read w64 z) + spot .columns ≤ now
-  in-slice e = omega (arith, place, r .within)
 
 -- a turn of a loop that adds a row a turn
 pub record Turn (top : ℕ) (ps : List ℕ) (spot : Spot) (v : ℕ → ℕ → ℤ) (y : ℕ) (now : List ℕ) (z : ℤ) : Type 0 where

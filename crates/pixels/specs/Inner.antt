@@ -4,7 +4,7 @@ use mathlib.Core.Bool.{false}
 use mathlib.Core.List.{List}
 use Prim.Native.Nat.{ℕ, _+_, _*_, _≤_, _<_}
 use lib.IntN.{ℤ, natAbs}
-use lib.ListN.{getD, length}
+use lib.ListN.{length}
 use Rattle.whole.specs.Numbers.{round2}
 use Rattle.whole.specs.Lists.{at}
 use Rattle.levels.specs.declared.Kind.{Kind}
@@ -42,17 +42,3 @@ pub record Shifting (spot : Spot) (v : ℤ) (ps : List ℕ) : Type 0 where
   pub height : spot .rows ≤ 32
   pub inside : spot-outside (length ps) spot ≡ false
   pub small : natAbs v ≤ 16777216
-
--- what looking for a pixel asks
-pub record Looking (spot : Spot) (w size : ℕ) : Type 0 where
-  pub height : spot .rows ≤ 32
-  pub width : w ≤ 32
-  pub columns-in : spot .columns ≤ w
-  pub inside : spot-outside size spot ≡ false
-
--- no pixel of a row, and no visible one, is above top
-abbrev pub LowRow : ℕ → List ℕ → ℕ → ℕ → Type 0
-LowRow top ps from n = (x : ℕ) → x < n → getD ps (from + x) 0 ≤ top
-
-abbrev pub Low : ℕ → List ℕ → Spot → Type 0
-Low top ps spot = (y : ℕ) → y < spot .rows → LowRow top ps (begins spot y) (spot .columns)

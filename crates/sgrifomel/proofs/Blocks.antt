@@ -22,7 +22,7 @@ use Rattle.levels.proofs.Sizes.{side-bounds, plan-sided}
 use Rattle.strided.specs.declared.View.{View}
 use Rattle.strided.specs.Planes.{bad-view, bad-stride, row-outside, lies}
 use Rattle.strided.proofs.Rows.{rows-in}
-use Rattle.pixels.specs.Above.{first-above}
+use Rattle.above.specs.Above.{first-above}
 use Rattle.whole.specs.Answers.{Answer}
 use Rattle.checks.specs.Table.{Block, Call, plain, live, bad-eob, bad-rows, out-of-range, stray, table, checked, verdict, spec-verdict, with-adst, short, live-rows, with-depth}
 use Rattle.itx.specs.Calls.{outcome-of, by-shortcut, by-passes, outcome, Outcome, Meets}

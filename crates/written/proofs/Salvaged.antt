@@ -28,7 +28,7 @@ use Rattle.levels.proofs.Sizes.{Planned, plan-of, plan-sided, side-bounds}
 use Rattle.coefs.specs.Coefs.{Covers}
 use Rattle.strided.specs.Planes.{bad-view, bad-stride, whole, lies}
 use Rattle.strided.specs.declared.Width.the-variants.{Wide}
-use Rattle.pixels.proofs.Above.{no-above}
+use Rattle.above.proofs.Above.{no-above}
 use Rattle.checks.specs.Table.{Call, lengths-lines, plain, live, bad-eob, bad-rows, stray, verdict, range-line, stray-line, table}
 use Rattle.checks.proofs.Verdicts.{then-same, planned-at}
 use Rattle.checks.proofs.Covering.{strays-none}

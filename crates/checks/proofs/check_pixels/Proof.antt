@@ -11,7 +11,7 @@ use Rattle.intops.specs.declared.Found.{Found}
 use Rattle.intops.specs.Searches.{found}
 use Rattle.levels.specs.declared.Plan.{Plan}
 use Rattle.strided.specs.declared.Spot.{Spot}
-use Rattle.pixels.specs.Above.{first-above}
+use Rattle.above.specs.Above.{first-above}
 use Rattle.checks.specs.declared.Verdict.the-variants.{At}
 use Rattle.checks.specs.Table.{pixel-line}
 use Rattle.checks.specs.Inner.{verdict-of, Lies, Looks}

@@ -15,7 +15,7 @@ use Rattle.strided.specs.Planes.{Spotted, bad-view, bad-stride, spot, spot-outs
 use Rattle.strided.specs.Inner.{spot-check}
 use Rattle.strided.proofs.Rows.{spotted-by, columns-in, rows-most}
 use Rattle.checks.specs.Inner.{verdict-of, Asked, Lies, Looks}
-use Rattle.pixels.specs.Inner.{Looking}
+use Rattle.above.specs.Inner.{Looking}
 use Rattle.checks.specs.Table.{plane-lines}
 use Rattle.checks.proofs.Opening.{opened, stopped}
 use Rattle.checks.proofs.check_plane.Statement.{statement}

@@ -8,7 +8,8 @@ use Rattle.whole.specs.Lists.{at}
 use Rattle.strided.specs.Planes.{starts}
 use Rattle.pixels.specs.Inner.{left}
 use Rattle.pixels.proofs.Pixels.{RowsTo, rows-begun, rows-long, rows-done}
-use Rattle.pixels.proofs.Walks.{Turn, turned, counted, adds, next}
+use Rattle.pixels.proofs.Walks.{Turn, turned, adds, next}
+use Rattle.strided.proofs.Walks.{counted}
 use Rattle.pixels.proofs.add_block.Statement.{statement}
 use Rattle.pixels.proofs.add_block.Tie as tie
 

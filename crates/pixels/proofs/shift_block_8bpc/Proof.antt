@@ -10,7 +10,8 @@ use mir.ValLaws.{toZ-ofZ}
 use Rattle.strided.specs.Planes.{starts, begins}
 use Rattle.pixels.specs.Adds.{add-rows}
 use Rattle.pixels.proofs.Pixels.{RowsTo, rows-begun, rows-long, rows-done}
-use Rattle.pixels.proofs.Walks.{Turn, turned, counted, room, next, held-small}
+use Rattle.pixels.proofs.Walks.{Turn, turned, room, next, held-small}
+use Rattle.strided.proofs.Walks.{counted}
 use Rattle.pixels.proofs.shift_block_8bpc.Statement.{statement}
 use Rattle.pixels.proofs.shift_block_8bpc.Tie as tie
 

@@ -1,4 +1,4 @@
--- `pixels::search_above` meets its contract.
+-- `above::search_above` meets its contract.
 use mathlib.Core.Path.{_≡_, refl, sym, ap, _∙_}
 use mathlib.Core.Bool.{Bool}
 use mathlib.Core.List.{List}
@@ -18,11 +18,11 @@ use Rattle.strided.proofs.Casts.{read}
 use Rattle.intops.specs.declared.Found.the-variants.{Nothing}
 use Rattle.intops.specs.Searches.{found}
 use Rattle.coefs.proofs.Clean.{Clean, clean-more, in-buffer}
-use Rattle.pixels.specs.Above.{above}
-use Rattle.pixels.proofs.Above.{at-visible, clean-past}
-use Rattle.pixels.proofs.Walks.{Row, found-row, place, counted, in-slice}
-use Rattle.pixels.proofs.search_above.Statement.{statement}
-use Rattle.pixels.proofs.search_above.Tie as tie
+use Rattle.above.specs.Above.{above}
+use Rattle.above.proofs.Above.{at-visible, clean-past}
+use Rattle.strided.proofs.Walks.{Row, found-row, place, counted, in-slice}
+use Rattle.above.proofs.search_above.Statement.{statement}
+use Rattle.above.proofs.search_above.Tie as tie
 
 abbrev sought : ℕ → List ℕ → ℕ → PixelStride → ℕ → ℕ → ℕ → ℕ → Bool
 sought top ps offset stride n rows w = above top ps (record { offset = offset; stride = stride; columns = n; rows = rows }) w

@@ -1,4 +1,4 @@
--- `pixels::rows_bound` meets its contract.
+-- `above::rows_bound` meets its contract.
 use mathlib.Core.Path.{refl, subst}
 use Prim.Native.Nat.{ℕ, _-_, _≤_, _<_}
 use native.Mathlib.Omega.{arith}
@@ -7,10 +7,10 @@ use lib.IntN.{natAbs}
 use lib.ListN.{length}
 use Rattle.whole.proofs.Counts.{last-or-less}
 use Rattle.strided.specs.Planes.{starts, begins}
-use Rattle.pixels.specs.Inner.{LowRow}
-use Rattle.pixels.proofs.Walks.{Row, found-row, place, counted, in-slice}
-use Rattle.pixels.proofs.rows_bound.Statement.{statement}
-use Rattle.pixels.proofs.rows_bound.Tie as tie
+use Rattle.above.specs.Inner.{LowRow}
+use Rattle.strided.proofs.Walks.{Row, found-row, place, counted, in-slice}
+use Rattle.above.proofs.rows_bound.Statement.{statement}
+use Rattle.above.proofs.rows_bound.Tie as tie
 
 abbrev Inv-loop : tie.InvT-loop
 Inv-loop ps w offset stride n rows most₀ y₀ most y = ((j : ℕ) → j < y → LowRow most ps (natAbs (starts offset (stride .0) j)) n) × (y ≤ rows)

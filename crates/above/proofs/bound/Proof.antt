@@ -1,12 +1,12 @@
--- `pixels::bound` meets its contract.
+-- `above::bound` meets its contract.
 use Prim.Native.Nat.{ℕ, _+_, _-_, _≤_}
 use native.Mathlib.Omega.{arith}
 use borrow.Author.Needs.{needs}
 use lib.ListN.{getD}
 use Rattle.whole.proofs.Counts.{last-or-less}
-use Rattle.pixels.specs.Inner.{LowRow}
-use Rattle.pixels.proofs.bound.Statement.{statement}
-use Rattle.pixels.proofs.bound.Tie as tie
+use Rattle.above.specs.Inner.{LowRow}
+use Rattle.above.proofs.bound.Statement.{statement}
+use Rattle.above.proofs.bound.Tie as tie
 
 abbrev Inv-loop : tie.InvT-loop
 Inv-loop ps from n most₀ x₀ most x = LowRow most ps from x × (x ≤ n)

@@ -1,14 +1,14 @@
--- `pixels::visible_bound` meets its contract.
+-- `above::visible_bound` meets its contract.
 use mathlib.Core.Path.{_≡_, subst, subst⁻¹}
 use Prim.Native.Nat.{ℕ}
 use borrow.Author.Needs.{needs}
 use lib.ListN.{length}
 use Rattle.strided.specs.declared.Spot.{Spot}
 use Rattle.strided.specs.Inner.{wide}
-use Rattle.pixels.specs.Inner.{Looking, Low}
-use Rattle.pixels.proofs.Above.{wide-same}
-use Rattle.pixels.proofs.visible_bound.Statement.{statement}
-use Rattle.pixels.proofs.visible_bound.Tie as tie
+use Rattle.above.specs.Inner.{Looking, Low}
+use Rattle.strided.proofs.Walks.{wide-same}
+use Rattle.above.proofs.visible_bound.Statement.{statement}
+use Rattle.above.proofs.visible_bound.Tie as tie
 
 -- the spot with the width that was tested
 module _ (s : tie.Start) {t : Spot} {n : ℕ} (e : s .args .spot .columns ≡ n) (is : t ≡ wide (s .args .spot) n) where

@@ -1,9 +1,9 @@
--- `pixels::joint` meets its contract.
+-- `above::joint` meets its contract.
 use Prim.Native.Nat.{ℕ, _≤_}
 use native.Mathlib.Omega.{arith}
 use lib.Bits.{bitOr, or-add-and, and-le-l, and-le-r}
-use Rattle.pixels.proofs.joint.Statement.{statement}
-use Rattle.pixels.proofs.joint.Tie as tie
+use Rattle.above.proofs.joint.Statement.{statement}
+use Rattle.above.proofs.joint.Tie as tie
 
 -- what both have is at most either
 as-large : (p q : ℕ) → (p ≤ bitOr p q) × (q ≤ bitOr p q)

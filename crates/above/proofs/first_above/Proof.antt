@@ -1,10 +1,10 @@
--- `pixels::first_above` meets its contract.
+-- `above::first_above` meets its contract.
 use mathlib.Core.Path.{sym}
 use native.Mathlib.Omega.{arith}
 use borrow.Author.Needs.{needs}
-use Rattle.pixels.proofs.Above.{no-above}
-use Rattle.pixels.proofs.first_above.Statement.{statement}
-use Rattle.pixels.proofs.first_above.Tie as tie
+use Rattle.above.proofs.Above.{no-above}
+use Rattle.above.proofs.first_above.Statement.{statement}
+use Rattle.above.proofs.first_above.Tie as tie
 
 pub first-above-spec : {M : Type 1} → statement M
 first-above-spec =
