@@ -21,7 +21,8 @@ use Rattle.numbers.proofs.Writing.{put-none}
 use Rattle.text.specs.Text.{refused-line}
 use Rattle.jobs.specs.Task.{Written, both, nothing, Done, done, bad}
 use Rattle.jobs.specs.Steps.{Place, outset, before, Step, wrote, wanted, number, mind, ending, falling, opened, acting, came, step}
-use Rattle.tally.specs.Totals.{Tally, tally, Totals, totals, report}
+use Rattle.tally.specs.Totals.{Tally, tally, Totals, totals}
+use Rattle.report.specs.Report.{report}
 use Rattle.tally.specs.Inner.{tallied, sums-of, Added, Sane, sane, Countable}
 use Rattle.mend.specs.Mend.{range}
 use Rattle.mend.specs.Inner.{Mended}

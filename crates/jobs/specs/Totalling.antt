@@ -3,7 +3,8 @@ use mathlib.Core.List.{List, [], _∷_, _++_}
 use Prim.Native.Nat.{ℕ}
 use lib.Dec.{ltb}
 use Rattle.text.specs.Text.{refused-line}
-use Rattle.tally.specs.Totals.{Tally, tally, totals, report}
+use Rattle.tally.specs.Totals.{Tally, tally, totals}
+use Rattle.report.specs.Report.{report}
 use Rattle.blockfile.specs.File.{End, here, refused-at}
 use Rattle.jobs.specs.Task.{Written, both, nothing, Task}
 use Rattle.act.specs.Act.{call}

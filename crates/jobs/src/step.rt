@@ -26,7 +26,7 @@ use numbers::write_number;
 use tally::add;
 use tally::are_sane;
 use tally::keep;
-use tally::put_report;
+use report::put_report;
 use text::refused_line;
 
 // What a program does with a block file.

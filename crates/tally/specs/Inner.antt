@@ -4,7 +4,7 @@ use mathlib.Core.List.{List, [], _∷_, _++_}
 use Prim.Native.Nat.{ℕ, _+_, _*_, _^_, _≤_, _<_, _-_}
 use lib.ListN.{getD, length}
 use Rattle.whole.specs.Lists.{tab}
-use Rattle.tally.specs.Totals.{sum, greatest, cell-w, cell-h, cell-type, cell-line, joined, Tally, Totals, in-cell, moves, totals}
+use Rattle.tally.specs.Totals.{sum, greatest, cell-w, cell-h, cell-type, Tally, Totals, in-cell, moves, totals}
 use Rattle.tally.specs.declared.Moved.{Moved}
 use mathlib.Core.Bool.{Bool, true, cond, _&&_}
 use lib.Dec.{eqb, ltb}
@@ -34,11 +34,6 @@ abbrev pub all-cells : List ℕ
 all-cells = tab cells (λ k. k)
 
 -- ---- what the functions ask and give
-
--- the lines of the first n cells, as the numbers s have their counts
-unfoldable pub cell-lines : List ℕ → ℕ → List ℕ
-unfolding cell-line
-cell-lines s n = joined (tab n (λ k. cell-line k (getD s (4 + k) 0)))
 
 -- side number r of the four
 pub record Rank (n r : ℕ) : Type 0 where

@@ -1,13 +1,11 @@
 -- Totals over a file's records (E7): "Each total is defined from the list of records."
 use mathlib.Core.Bool.{Bool, cond, _&&_}
-use mathlib.Core.List.{List, [], _∷_, _++_, foldr, zipWith}
+use mathlib.Core.List.{List, foldr, zipWith}
 use Prim.Native.Nat.{ℕ, _+_, _-_, _*_, _/_, _%_, _^_, max}
 use lib.Dec.{eqb}
-use Rattle.whole.specs.Lists.{tab}
 use Rattle.itx.specs.Calls.{Outcome}
 use Rattle.blockfile.specs.Record.{Block}
 use Rattle.blockfile.specs.declared.record.Head.{Head}
-use Rattle.text.specs.Text.{decimal, line}
 
 -- What E7 counts of a record: "w, h, type", "the mark", and its pixels "before and after"
 pub record Tally : Type 0 where
@@ -68,7 +66,6 @@ a ⊕ b = record {
 }
 
 infixl 6 _⊕_
--- ---- what is printed
 
 -- "rising by w, then h, then type": the combinations in this order are the 272 cells of a table, 17 types for each of 4 heights for each of 4 widths
 abbrev pub cell-w : ℕ → ℕ
@@ -83,26 +80,3 @@ cell-type k = k % 17
 -- the count of cell k's combination
 abbrev pub in-cell : Totals → ℕ → ℕ
 in-cell t k = t .met (cell-w k) (cell-h k) (cell-type k)
-
--- "lines of w, h, type and count for each combination met": none for one that was not
-unfoldable pub cell-line : ℕ → ℕ → List ℕ
-unfolding line decimal
-cell-line k n = cond (eqb n 0) [] (line (decimal (cell-w k) ∷ decimal (cell-h k) ∷ decimal (cell-type k) ∷ decimal n ∷ []))
-
--- "one to a line": line after line
-abbrev pub joined : List (List ℕ) → List ℕ
-joined = foldr _++_ []
-
--- "print, one to a line: "records" and their number, "marked" and how many had the mark, "change" and the sum .., "largest" and the greatest":
--- these four, and what comes after them
-abbrev pub headed : ℕ → ℕ → ℕ → ℕ → List ℕ → List ℕ
-headed records marked change largest others =
-    line ((114 ∷ 101 ∷ 99 ∷ 111 ∷ 114 ∷ 100 ∷ 115 ∷ []) ∷ decimal records ∷ [])
-    ++ (line ((109 ∷ 97 ∷ 114 ∷ 107 ∷ 101 ∷ 100 ∷ []) ∷ decimal marked ∷ [])
-    ++ (line ((99 ∷ 104 ∷ 97 ∷ 110 ∷ 103 ∷ 101 ∷ []) ∷ decimal change ∷ [])
-    ++ (line ((108 ∷ 97 ∷ 114 ∷ 103 ∷ 101 ∷ 115 ∷ 116 ∷ []) ∷ decimal largest ∷ []) ++ others)))
-
--- "Then come lines of w, h, type and count for each combination met"
-unfoldable pub report : Totals → List ℕ
-unfolding line decimal cell-line
-report t = headed (t .records) (t .marked) (t .change) (t .largest) (joined (tab 272 (λ k. cell-line k (in-cell t k))))

@@ -1,9 +1,9 @@
--- `tally::put_report` meets its contract: four totals and the cells are put one after another.
+-- `report::put_report` meets its contract: four totals and the cells are put one after another.
 use borrow.Author.Needs.{needs}
 use Rattle.numbers.proofs.Writing.{put-then}
-use Rattle.tally.proofs.Tallies.{report-by}
-use Rattle.tally.proofs.put_report.Statement.{statement}
-use Rattle.tally.proofs.put_report.Tie as tie
+use Rattle.report.proofs.Lines.{report-by}
+use Rattle.report.proofs.put_report.Statement.{statement}
+use Rattle.report.proofs.put_report.Tie as tie
 
 returns : tie.Need-returns
 returns c t is =

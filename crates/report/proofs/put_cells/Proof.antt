@@ -1,11 +1,11 @@
--- `tally::put_cells` meets its contract: the lines of the first k cells are put.
+-- `report::put_cells` meets its contract: the lines of the first k cells are put.
 use Prim.Native.Nat.{_+_, _-_}
 use native.Mathlib.Omega.{arith}
 use borrow.Author.Needs.{needs}
 use Rattle.numbers.proofs.Writing.{put-length}
-use Rattle.tally.proofs.Tallies.{Listing, begin-cells, next-cell, finish-cells}
-use Rattle.tally.proofs.put_cells.Statement.{statement}
-use Rattle.tally.proofs.put_cells.Tie as tie
+use Rattle.report.proofs.Lines.{Listing, begin-cells, next-cell, finish-cells}
+use Rattle.report.proofs.put_cells.Statement.{statement}
+use Rattle.report.proofs.put_cells.Tie as tie
 
 abbrev Inv-loop : tie.InvT-loop
 Inv-loop sums out₀ at p₀ k₀ out p k = Listing sums out₀ at out p k

@@ -3,8 +3,9 @@ use mathlib.Core.Path.{_≡_, refl}
 use mathlib.Core.Bool.{false}
 use mathlib.Core.List.{[], _∷_, _++_}
 use lib.ListN.{replicate}
-use Rattle.tally.specs.Totals.{distances, totals, report}
+use Rattle.tally.specs.Totals.{distances, totals}
+use Rattle.report.specs.Report.{report}
 use Rattle.tally.specs.Inner.{tallied}
 
 five-lines : report (totals (tallied (record { w = 4; h = 4; txtp = 0; depth = 8; announced = 0 }) false (replicate 16 100) (replicate 16 102) ∷ []))
     ≡ (114 ∷ 101 ∷ 99 ∷ 111 ∷ 114 ∷ 100 ∷ 115 ∷ 32 ∷ 49 ∷ 10 ∷ [])

@@ -1,9 +1,9 @@
--- `tally::side_of` meets its contract.
+-- `report::side_of` meets its contract.
 use mathlib.Core.Path.{_≡_, sym, ap}
 use Prim.Native.Nat.{ℕ, _*_, _^_, _≤_, _<_}
 use native.Mathlib.Omega.{arith}
-use Rattle.tally.proofs.side_of.Statement.{statement}
-use Rattle.tally.proofs.side_of.Tie as tie
+use Rattle.report.proofs.side_of.Statement.{statement}
+use Rattle.report.proofs.side_of.Tie as tie
 
 side : {r : ℕ} (k : ℕ) → r ≡ k → 4 * 2 ^ k ≤ 32 → (4 * 2 ^ k ≡ 4 * 2 ^ r) × (4 * 2 ^ k ≤ 32)
 side k e h = (sym (ap (λ (n : ℕ). 4 * 2 ^ n) e), h)

@@ -1,10 +1,10 @@
--- `tally::put_number` meets its contract.
+-- `report::put_number` meets its contract.
 use native.Mathlib.Omega.{arith}
 use borrow.Author.Needs.{needs}
 use Rattle.numbers.proofs.Writing.{put-then, put-length}
 use Rattle.text.proofs.Texts.{put-one}
-use Rattle.tally.proofs.put_number.Statement.{statement}
-use Rattle.tally.proofs.put_number.Tie as tie
+use Rattle.report.proofs.put_number.Statement.{statement}
+use Rattle.report.proofs.put_number.Tie as tie
 
 returns : tie.Need-returns
 returns c =

@@ -1,4 +1,4 @@
--- `tally::put_cell` meets its contract: nothing is put for a combination that was not met, and four numbers for another.
+-- `report::put_cell` meets its contract: nothing is put for a combination that was not met, and four numbers for another.
 use mathlib.Core.List.{[], _∷_, _++_}
 use Prim.Native.Nat.{ℕ, _+_, _%_, _≤_}
 use native.Mathlib.Omega.{arith}
@@ -7,9 +7,9 @@ use lib.ListN.{length}
 use Rattle.numbers.proofs.Writing.{leaves}
 use Rattle.text.specs.Text.{decimal}
 use Rattle.text.proofs.Texts.{decimal-short}
-use Rattle.tally.proofs.Tallies.{number-short, no-line, cell-line-is}
-use Rattle.tally.proofs.put_cell.Statement.{statement}
-use Rattle.tally.proofs.put_cell.Tie as tie
+use Rattle.report.proofs.Lines.{number-short, no-line, cell-line-is}
+use Rattle.report.proofs.put_cell.Statement.{statement}
+use Rattle.report.proofs.put_cell.Tie as tie
 
 -- a side has two digits at most, and so has a type
 two : (n : ℕ) → n ≤ 32 → length (decimal n) ≤ 2

@@ -1,4 +1,4 @@
--- `tally::put_total` meets its contract: the word, a blank, and the number with the line's end.
+-- `report::put_total` meets its contract: the word, a blank, and the number with the line's end.
 use Prim.Native.Nat.{_+_, _^_, _≤_, _<_}
 use native.Mathlib.Omega.{arith}
 use borrow.Author.Needs.{needs}
@@ -6,9 +6,9 @@ use lib.ListN.{length}
 use Rattle.numbers.proofs.Writing.{put-then, leaves}
 use Rattle.text.specs.Text.{line}
 use Rattle.text.proofs.Texts.{decimal-short}
-use Rattle.tally.proofs.Tallies.{total-short}
-use Rattle.tally.proofs.put_total.Statement.{statement}
-use Rattle.tally.proofs.put_total.Tie as tie
+use Rattle.report.proofs.Lines.{total-short}
+use Rattle.report.proofs.put_total.Statement.{statement}
+use Rattle.report.proofs.put_total.Tie as tie
 
 -- the room that is left after the word, and after its blank
 after-word : (c : tie.After-put-bytes) → c .put-bytes .result + 22 ≤ length (c .put-bytes .last .0)
