@@ -4,7 +4,7 @@ use mathlib.Core.List.{List, [], _∷_, map}
 use Rattle.whole.specs.Numbers as Numbers
 use Rattle.passes.specs.Passes as Passes
 use Rattle.itx_1d.specs.Calls as Calls
-use Rattle.residual.specs.Blocks as Blocks
+use Rattle.scaling.specs.Scaling as Scaling
 use Rattle.pixels.specs.Adds as Adds
 use Rattle.itx.specs.Calls.{outcome}
 use Rattle.demands.specs.Known.{Case, Result, computed, expected, holds, All, cases}
@@ -15,7 +15,7 @@ unfolding Numbers._>>_ Numbers.round2 Numbers.clip Numbers.outside Passes.identi
 passing = tt
 
 adding : Unit {0}
-unfolding Blocks.prescale Blocks.shortcut Adds.add-row Adds.add-rows outcome
+unfolding Scaling.prescale Scaling.shortcut Adds.add-row Adds.add-rows outcome
 adding = tt
 
 -- what comes of all cases is what they say

@@ -29,7 +29,8 @@ use Rattle.levels.proofs.Sizes.{Sided, side-bounds}
 use Rattle.strided.specs.declared.View.{View}
 use Rattle.strided.specs.Planes.{lies, begins, place}
 use Rattle.strided.proofs.Rows.{columns-in, rows-in, row-fits, rows-apart}
-use Rattle.residual.specs.Blocks.{Way, way, entered, row, middle, column, residual, marked, prescale, shortcut}
+use Rattle.scaling.specs.Scaling.{prescale, shortcut}
+use Rattle.residual.specs.Blocks.{Way, way, entered, row, middle, column, residual, marked}
 use Rattle.pixels.specs.Adds.{add-pixel, add-rows}
 use Rattle.checks.specs.Table.{Block, plain}
 use Rattle.itx.specs.Calls.{by-shortcut, by-passes, outcome}
@@ -54,7 +55,7 @@ abbrev last : ℤ → ℤ
 last v = v *ℤ pos 181 +ℤ pos 2176 >> 12
 
 prescale-inside : (m w h : ℕ) (v : ℤ) → outside v (low m) (high m) ≡ false → outside (prescale w h v) (low m) (high m) ≡ false
-unfolding Rattle.residual.specs.Blocks.prescale
+unfolding Rattle.scaling.specs.Scaling.prescale
 prescale-inside m w h v e = by-test (λ t. outside (cond t (level v) v) (low m) (high m) ≡ false) (eqb (w * 2) h || eqb (h * 2) w)
     (λ _. scaled-inside m v e) (λ _. e)
 
@@ -179,7 +180,7 @@ module _ (b : Block) (w h s : ℕ) (d : Depth) (good : Accepted (plain (pos 0)) 
       → let q = getD (add-rows (maximum d) (b .plane .pixels) (begins (lies (b .plane)))
       (residual (way plan-here d) (b .coefs) 1) (v .columns) y) (place (b .plane) y x) 0 in
       add-pixel (maximum d) q (shortcut plan-here (at (b .coefs) 0)) ≡ add-pixel (maximum d) q (residual (way plan-here d) (b .coefs) 1 y x)
-  unfolding Rattle.residual.specs.Blocks.shortcut
+  unfolding Rattle.scaling.specs.Scaling.shortcut
   pixel-same y x k l = let rs = residual (way plan-here d) (b .coefs) 1 in
       let q = getD (add-rows (maximum d) (b .plane .pixels) (begins (lies (b .plane))) rs (v .columns) y) (place (b .plane) y x) 0 in
       let n = length (b .plane .pixels) in

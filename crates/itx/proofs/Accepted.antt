@@ -31,7 +31,8 @@ use Rattle.strided.specs.Planes.{lies, spot-outside}
 use Rattle.strided.specs.declared.Spot.{Spot}
 use Rattle.strided.proofs.Rows.{columns-in, rows-in}
 use Rattle.residual.specs.declared.Engine.{Engine}
-use Rattle.residual.specs.Blocks.{way-by, residual, shortcut}
+use Rattle.scaling.specs.Scaling.{shortcut}
+use Rattle.residual.specs.Blocks.{way-by, residual}
 use Rattle.residual.specs.Inner.{Sized}
 use Rattle.bitdepth.proofs.Ends.{row-reach, size}
 use Rattle.checks.specs.declared.Refusal.{Refusal}

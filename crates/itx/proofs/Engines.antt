@@ -18,7 +18,8 @@ use native.Mathlib.Omega.{arith}
 use Rattle.itx.specs.Av1.{held, av1-way}
 use Rattle.checks.specs.Table.{Block, Call, checked, with-adst}
 use Rattle.itx.specs.Calls.{Outcome, outcome-of, outcome, Meets}
-use Rattle.residual.specs.Blocks.{row, column, prescale, way, way-by}
+use Rattle.scaling.specs.Scaling.{prescale}
+use Rattle.residual.specs.Blocks.{row, column, way, way-by}
 use Rattle.levels.specs.Manners.{if-wht, is-adst}
 use Rattle.levels.specs.Plans.{plan}
 use Rattle.residual.specs.declared.Engine.the-variants.{First, Spec}
@@ -45,7 +46,7 @@ allowed-spec c h = record {
 
 module _ (p : Plan) (d : Depth) where
   pub enter-av1 : (v : ℤ) → way p d .enter v ≡ av1-way p d .enter v
-  unfolding Rattle.residual.specs.Blocks.prescale
+  unfolding Rattle.scaling.specs.Scaling.prescale
   enter-av1 v = ap (λ (z : ℤ). if-wht (p .rows) (v >> 2) (cond (eqb (p .w * 2) (p .h) || eqb (p .h * 2) (p .w)) z v)) (sym (by-181 v))
 
   held-av1 : (d : Depth) (v : ℤ) → clip v (low (column-range d)) (high (column-range d)) ≡ held (max (bit-depth d + 6) 16) v

@@ -26,7 +26,8 @@ use Rattle.levels.proofs.Sizes.{Sided}
 use Rattle.coefs.specs.Coefs.{Covers}
 use Rattle.residual.specs.declared.Engine.{Engine}
 use Rattle.residual.specs.declared.Engine.the-variants.{First, Spec}
-use Rattle.residual.specs.Blocks.{Way, entered, row, middle, column, residual, marked, prescale, passed-by, way-by}
+use Rattle.scaling.specs.Scaling.{prescale}
+use Rattle.residual.specs.Blocks.{Way, entered, row, middle, column, residual, marked, passed-by, way-by}
 use Rattle.levels.specs.Manners.{if-wht}
 use lib.ListN.{replicate, drop}
 use Rattle.whole.specs.Answers.{acceptance}
@@ -72,7 +73,7 @@ round-zero zero = refl
 round-zero (suc k) = ap pos (div-eq-of-lt (omega (arith, pow-lt {i = k} {j = suc k} (omega arith))))
 
 pub prescale-zero : (w h : ℕ) → prescale w h (pos 0) ≡ pos 0
-unfolding Rattle.residual.specs.Blocks.prescale
+unfolding Rattle.scaling.specs.Scaling.prescale
 prescale-zero w h = by-test (λ t. cond t (round2 (pos 0 *ℤ pos 181) 8) (pos 0) ≡ pos 0) (eqb (w * 2) h || eqb (h * 2) w)
     (λ _. round-zero 8) (λ _. refl)
 

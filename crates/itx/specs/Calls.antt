@@ -14,7 +14,8 @@ use Rattle.bitdepth.specs.Depths.{maximum}
 use Rattle.levels.specs.declared.Plan.{Plan}
 use Rattle.pixels.specs.Adds.{add-rows}
 use Rattle.strided.specs.Planes.{Plane, lies, begins}
-use Rattle.residual.specs.Blocks.{Way, residual, marked, way, shortcut}
+use Rattle.scaling.specs.Scaling.{shortcut}
+use Rattle.residual.specs.Blocks.{Way, residual, marked, way}
 
 pub record Outcome : Type 0 where
   pub answer : Answer

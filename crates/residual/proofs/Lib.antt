@@ -3,7 +3,6 @@ pub mod Lines
 pub mod Fills
 pub mod Places
 pub mod Steps
-pub mod Small
 pub mod Whole
 pub mod Ends
 pub mod Laying

@@ -1,11 +1,14 @@
--- Where the elements of a block stand.
+-- Where the elements of a block stand, and how small they enter it.
 use mathlib.Core.Path.{_≡_, sym, ap, _∙_}
+use mathlib.Core.List.{List}
 use Prim.Native.Nat.{ℕ, suc, _+_, _*_, _%_, _≤_, _<_}
 use native.Mathlib.Nat.{mul-le-mul-right, mul-le-mul, le-trans, add-mul-mod-self-right, mod-eq-of-lt}
 use native.Mathlib.Omega.{arith}
+use lib.IntN.{ℤ, natAbs}
 use Rattle.levels.specs.declared.Plan.{Plan}
 use Rattle.passes.proofs.Strides.{at-most-32}
-use Rattle.residual.specs.Inner.{Sized}
+use Rattle.scaling.proofs.Small.{entering-small}
+use Rattle.residual.specs.Inner.{Sized, Coefs, loaded}
 
 -- row y, column x, column by column and row by row
 pub by-column : (w h y x : ℕ) → y < h → x < w → y + x * h < w * h
@@ -13,6 +16,9 @@ by-column w h y x l g = omega (arith, mul-le-mul-right {m = suc x} {n = w} h g)
 
 pub by-row : (w h y x : ℕ) → y < h → x < w → y * w + x < h * w
 by-row w h y x l g = omega (arith, mul-le-mul-right {m = suc y} {n = h} w l)
+
+pub loaded-small : {p : Plan} {c : List ℤ} → Coefs p c → (y x : ℕ) → y < p .h → x < p .w → natAbs (loaded p c y x) ≤ 524288
+loaded-small {p} h y x l g = entering-small (p .rows) (p .w) (p .h) _ (h .small (y + x * p .h) (by-column (p .w) (p .h) y x l g))
 
 module _ (p : Plan) (s : Sized p) where
   pub w-small : p .w ≤ 32

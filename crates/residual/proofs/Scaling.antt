@@ -42,6 +42,7 @@ scaled-columns {m} {w} {h} {t} long is = record {
   elements = record {
     passed = λ y x l g. is .own _ (y * w + x) (omega arith) (by-row w h y x l g) ∙ sym (line-at h h m (λ v. at t (v * w + x)) y l);
     waiting = λ y x l k g. (let f : ⊥ = omega arith in absurd f);
+    rest = λ i l. is .other i (λ j b e. omega arith);
     long = is .long ∙ long;
   };
   marked = sym (any-none w _ (λ x l. no-mark h m _));

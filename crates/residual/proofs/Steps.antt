@@ -63,7 +63,7 @@ rows-are-more {e = e} {p} {m} {y} {c} l room h is done = record {
 -- ---- columns: u has its first x columns passed
 
 pub columned-none : {n : ℕ} {e : Engine} {kind : Kind} {m w h : ℕ} {t : List ℤ} → length t ≡ n → Columned n e kind m w h t 0 t
-columned-none l = record { passed = λ y x b g. (let f : ⊥ = omega arith in absurd f); waiting = λ y x b k g. refl; long = l }
+columned-none l = record { passed = λ y x b g. (let f : ⊥ = omega arith in absurd f); waiting = λ y x b k g. refl; rest = λ i b. refl; long = l }
 
 module _ {n : ℕ} {e : Engine} {kind : Kind} {m w h x : ℕ} {t u : List ℤ} (is-length : len (side h) ≡ h) (x<w : x < w)
     (room : h * w ≤ n) (so-far : Columned n e kind m w h t x u) where
@@ -90,6 +90,7 @@ module _ {n : ℕ} {e : Engine} {kind : Kind} {m w h x : ℕ} {t u : List ℤ} (
           (omega arith) (filled .own (y * w + x) y (omega arith) l)
           (λ k. others y i (omega arith) (λ z. omega arith) ∙ so-far .passed y i l k);
       waiting = λ y i l k g. others y i g (λ z. omega arith) ∙ so-far .waiting y i l (omega arith) g;
+      rest = λ i l. filled .other i (λ j v z. omega (arith, by-row w h j x v x<w)) ∙ so-far .rest i l;
       long = filled .long ∙ so-far .long;
     }
 

@@ -28,13 +28,13 @@ use Rattle.bitdepth.specs.declared.Depth.{Depth}
 use Rattle.bitdepth.specs.declared.Depth.the-variants.{Eight, Ten, Twelve}
 use Rattle.bitdepth.specs.Depths.{row-range, column-range}
 use Rattle.levels.specs.declared.Plan.{Plan}
+use Rattle.scaling.specs.Scaling.{rounding}
 use Rattle.residual.specs.declared.Engine.{Engine}
 use Rattle.residual.specs.declared.Engine.the-variants.{First, Spec}
 use Rattle.residual.specs.Blocks.{passed-by, serves, way-by, middle, column, marked}
-use Rattle.residual.specs.Inner.{Filled, rounding, loaded, row-by, RowsAreIn, HoldsIn, column-by, ColumnsAreIn, ResolvesIn, Served, ResolvedIn}
+use Rattle.residual.specs.Inner.{Filled, loaded, row-by, RowsAreIn, HoldsIn, column-by, ColumnsAreIn, ResolvesIn, Served, ResolvedIn}
 use Rattle.bitdepth.proofs.Ends.{row-reach}
-use Rattle.residual.proofs.Places.{by-row}
-use Rattle.residual.proofs.Small.{loaded-small}
+use Rattle.residual.proofs.Places.{by-row, loaded-small}
 
 -- ---- sizes
 
@@ -101,9 +101,9 @@ module _ {n : ℕ} {e : Engine} {p : Plan} {c : List ℤ} {r : ℕ} {t₀ t₁ :
       (record { most = lit≤ tt; of-wht = λ t. lit≤ tt }) (λ y x l g. row-small y x l)
 
   abbrev between : ℤ → ℤ
-  between = rounding p (low (column-range d)) (high (column-range d))
+  between = rounding (p .rows) (p .shift) (low (column-range d)) (high (column-range d))
 
-  module _ {t₂ : List ℤ} (rounded : Filled t₁ 0 1 (λ i. rounding p (low (column-range d)) (high (column-range d)) (at t₁ i)) (r * p .w) t₂) where
+  module _ {t₂ : List ℤ} (rounded : Filled t₁ 0 1 (λ i. between (at t₁ i)) (r * p .w) t₂) where
     -- what stands in row y, column x after step 4
     in-rows : (i : ℕ) → i < r * p .w → at t₂ i ≡ between (at t₁ i)
     in-rows i l = rounded .own i i (omega arith) l
@@ -157,6 +157,8 @@ module _ {n : ℕ} {e : Engine} {p : Plan} {c : List ℤ} {r : ℕ} {t₀ t₁ :
       pub resolved : ResolvedIn n e p d c r t₃ (m₁ || m₂)
       resolved = record {
         elements = λ y x l g. columned .elements .passed y x l g ∙ ap (λ (s : Passed). at (s .values) y) (column-is x g);
+        rest = λ i l. columned .elements .rest i l
+            ∙ after-rows i (le-trans (mul-le-mul-right {m = r} {n = p .h} (p .w) (given .some-rows)) l);
         small = column-small;
         long = columned .elements .long;
         mark-is = ap₂ (λ a b. a || b) (rowed .marked) (columned .marked ∙ any-ext (p .w) _ _ (λ x g. ap (λ (s : Passed). s .mark) (column-is x g)));

@@ -1,10 +1,10 @@
--- The residual of a block: document 01, "Two-dimensional transform", steps 1 to 6, the WHT and the shortcut.
+-- The residual of a block: document 01, "Two-dimensional transform", steps 1 to 6, and the WHT.
 use mathlib.Core.Bool.{Bool, true, false, cond, _||_}
 use mathlib.Core.List.{List}
 use Prim.Native.Nat.{ℕ, _+_, _*_}
-use lib.Dec.{eqb, ltb}
-use lib.IntN.{ℤ, pos, _+ℤ_, _*ℤ_}
-use Rattle.whole.specs.Numbers.{_>>_, round2, clip, low, high}
+use lib.Dec.{ltb}
+use lib.IntN.{ℤ, pos}
+use Rattle.whole.specs.Numbers.{round2, low, high}
 use Rattle.whole.specs.Lists.{at, tab, any}
 use Rattle.levels.specs.Sides.{Side, side}
 use Rattle.levels.specs.declared.Kind.{Kind}
@@ -14,6 +14,7 @@ use Rattle.spec_engine.specs.Arrays.{specified}
 use Rattle.bitdepth.specs.declared.Depth.{Depth}
 use Rattle.bitdepth.specs.Depths.{row-range, column-range}
 use Rattle.levels.specs.declared.Plan.{Plan}
+use Rattle.scaling.specs.Scaling.{entering, rounding}
 use Rattle.residual.specs.declared.Engine.{Engine}
 use Rattle.residual.specs.declared.Engine.the-variants.{First, Spec}
 
@@ -52,10 +53,6 @@ module _ (𝓦 : Way) (c : List ℤ) where
     abbrev pub marked : Bool
     marked = any r (λ y. row y .mark) || any (𝓦 .w) (λ x. column x .mark)
 
--- step 2: "If one side is twice the other, each coefficient v becomes 181v + 128 >> 8."
-unfoldable pub prescale : ℕ → ℕ → ℤ → ℤ
-prescale w h v = cond (eqb (w * 2) h || eqb (h * 2) w) (round2 (v *ℤ pos 181) 8) v
-
 -- the two engines differ in the passes alone: document 01's; and, for E8, the AV1 specification's, which clip nothing and have no mark
 abbrev pub passed-by : Engine → Kind → Side → ℕ → List ℤ → Passed
 passed-by First kind n m = pass kind n m
@@ -73,11 +70,10 @@ way-by e p d =
     record {
       w = p .w;
       h = p .h;
-      enter = λ v. if-wht (p .rows) (v >> 2) (prescale (p .w) (p .h) v);
+      enter = entering (p .rows) (p .w) (p .h);
       -- step 3: "Row pass on every row, with the row range."
       row = passed-by e (p .rows) (side (p .w)) (row-range d);
-      -- step 4: "v + rnd >> shift, clipped to the column range"; rnd is that of Round2
-      between = λ v. if-wht (p .rows) v (clip (round2 v (p .shift)) (low m) (high m));
+      between = rounding (p .rows) (p .shift) (low m) (high m);
       -- step 5: "Column pass with the column range."
       column = passed-by e (p .columns) (side (p .h)) m;
       -- step 6: "v + 8 >> 4"
@@ -87,11 +83,3 @@ way-by e p d =
 -- the first engine's
 abbrev pub way : Plan → Depth → Way
 way = way-by First
-
--- "d is the first coefficient; step 2 if due; d = 181d + 128 >> 8; d = d + rnd >> shift; d = 181d + 2176 >> 12"
-unfoldable pub shortcut : Plan → ℤ → ℤ
-shortcut p v =
-    let d₀ = prescale (p .w) (p .h) v in
-    let d₁ = round2 (d₀ *ℤ pos 181) 8 in
-    let d₂ = round2 d₁ (p .shift) in
-    d₂ *ℤ pos 181 +ℤ pos 2176 >> 12

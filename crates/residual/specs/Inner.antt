@@ -7,22 +7,19 @@ use Prim.Native.Nat.{ℕ, _+_, _*_, _≤_, _<_}
 use lib.Dec.{T}
 use lib.IntN.{ℤ, pos, natAbs}
 use lib.ListN.{length}
-use Rattle.whole.specs.Numbers.{_>>_, round2, clip}
 use Rattle.whole.specs.Lists.{at, tab, any}
 use Rattle.levels.specs.Sides.{len, side}
 use Rattle.levels.specs.declared.Kind.{Kind}
 use Rattle.levels.specs.declared.Kind.the-variants.{Dct, Wht}
 use Rattle.passes.specs.Passes.{Passed}
-use Rattle.levels.specs.Manners.{is-wht, if-wht}
+use Rattle.levels.specs.Manners.{is-wht}
 use Rattle.passes.specs.Inner.{revs, source, most, Lined, Limited}
 use Rattle.bitdepth.specs.declared.Depth.{Depth}
 use Rattle.levels.specs.declared.Plan.{Plan}
+use Rattle.scaling.specs.Scaling.{entering}
 use Rattle.residual.specs.declared.Engine.{Engine}
 use Rattle.residual.specs.declared.Engine.the-variants.{First}
-use Rattle.residual.specs.Blocks.{column, marked, prescale, passed-by, serves, way-by}
-
-abbrev pub entering : Kind → ℕ → ℕ → ℤ → ℤ
-entering rows w h v = if-wht rows (v >> 2) (prescale w h v)
+use Rattle.residual.specs.Blocks.{column, marked, passed-by, serves, way-by}
 
 -- u has f 0, .., f (k - 1) at the places from, from + s, .., and elsewhere what t has
 pub record Filled (t : List ℤ) (from s : ℕ) (f : ℕ → ℤ) (k : ℕ) (u : List ℤ) : Type 0 where
@@ -63,9 +60,6 @@ pub record RowLoads (p : Plan) (c : List ℤ) (y : ℕ) (t : List ℤ) : Type 0 
   pub coefs : Coefs p c
   pub y-in : y < p .h
   pub room : p .h * p .w ≤ length t
-
-abbrev pub rounding : Plan → ℤ → ℤ → ℤ → ℤ
-rounding p lo hi v = if-wht (p .rows) v (clip (round2 v (p .shift)) lo hi)
 
 pub record Rounds (p : Plan) (n : ℕ) (t : List ℤ) : Type 0 where
   pub shift-small : p .shift ≤ 2
@@ -170,6 +164,7 @@ column-by e kind m w h t x = passed-by e kind (side h) m (tab h (λ y. at t (y *
 pub record Columned (n : ℕ) (e : Engine) (kind : Kind) (m w h : ℕ) (t : List ℤ) (k : ℕ) (u : List ℤ) : Type 0 where
   pub passed : (y x : ℕ) → y < h → x < k → at u (y * w + x) ≡ at (column-by e kind m w h t x .values) y
   pub waiting : (y x : ℕ) → y < h → k ≤ x → x < w → at u (y * w + x) ≡ at t (y * w + x)
+  pub rest : (i : ℕ) → h * w ≤ i → at u i ≡ at t i
   pub long : length u ≡ n
 
 pub record ColumnsPass (kind : Kind) (w h : ℕ) (lo hi : ℤ) (t : List ℤ) : Type 0 where
@@ -217,6 +212,7 @@ pub record Served (e : Engine) (p : Plan) : Type 0 where
 -- the whole: what it gives
 pub record ResolvedIn (n : ℕ) (e : Engine) (p : Plan) (d : Depth) (c : List ℤ) (r : ℕ) (t : List ℤ) (mark : Bool) : Type 0 where
   pub elements : (y x : ℕ) → y < p .h → x < p .w → at t (y * p .w + x) ≡ at (column (way-by e p d) c r x .values) y
+  pub rest : (i : ℕ) → p .h * p .w ≤ i → at t i ≡ pos 0
   pub small : (y x : ℕ) → y < p .h → x < p .w → natAbs (at t (y * p .w + x)) ≤ 16777216
   pub long : length t ≡ n
   pub mark-is : mark ≡ marked (way-by e p d) c r

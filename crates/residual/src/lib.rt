@@ -4,18 +4,16 @@ ghost use mathlib.Core.Bool as Bool;
 ghost use Prim.Native.Nat.{ℕ, _+_, _*_, _≤_, _<_};
 ghost use lib.IntN.{natAbs};
 ghost use lib.ListN.{length};
-ghost use Rattle.whole.specs.Numbers.{round2, clip};
 ghost use Rattle.whole.specs.Lists.{at};
 ghost use Rattle.levels.specs.Sides.{side};
-ghost use Rattle.levels.specs.Manners.{if-wht};
 ghost use lib.Dec.{T};
 ghost use Rattle.passes.specs.Passes.{identity};
 ghost use Rattle.passes.specs.Inner.{Passing, Made};
+ghost use Rattle.scaling.specs.Scaling.{rounding};
 ghost use Rattle.residual.specs.Blocks as Blocks;
 ghost use Rattle.residual.specs.Inner as Inner;
 use bitdepth::Depth;
 use bitdepth::Range;
-use intops::iclip;
 use lanes::dct;
 use levels::Kind;
 use levels::Plan;
@@ -23,64 +21,14 @@ use passes::REV;
 use passes::identity_of;
 use passes::inv_1d;
 use passes::wht4;
+use scaling::between;
+use scaling::enter;
 use spec_engine::inverse;
 
 // Whose passes a block goes through: the first engine's are the crate's (document 01), the second's are the AV1 specification's own steps (E8).
 pub enum Engine {
     First,
     Spec,
-}
-
-// Step 2, and the shift of a WHT.
-fn enter(rows: Kind, w: usize, h: usize, v: i32) -> i32
-    requires { ⌜ ((w ≤ 32) × (h ≤ 32)) × (natAbs v ≤ 524288) ⌝ }
-    ensures { λ r. ⌜ r ≡ Inner.entering rows w h v ⌝ }
-{
-    if let Kind::Wht = rows {
-        return v >> 2;
-    }
-    if (w * 2 == h) | (h * 2 == w) {
-        v * 181 + 128 >> 8
-    } else {
-        v
-    }
-}
-
-// v + rnd >> shift.
-fn rounded(v: i32, shift: u32) -> i32
-    requires { ⌜ (natAbs v ≤ 1073741823) × (shift ≤ 2) ⌝ }
-    ensures { λ r. ⌜ r ≡ round2 v shift ⌝ }
-{
-    match shift {
-        0 => v,
-        1 => v + 1 >> 1,
-        _ => v + 2 >> 2,
-    }
-}
-
-// Step 4; a WHT has none.
-fn between(rows: Kind, shift: u32, v: i32, min: i32, max: i32) -> i32
-    requires { ⌜ (natAbs v ≤ 1073741823) × (shift ≤ 2) ⌝ }
-    ensures { λ r. ⌜ r ≡ if-wht rows v (clip (round2 v shift) min max) ⌝ }
-{
-    if let Kind::Wht = rows {
-        return v;
-    }
-    iclip(rounded(v, shift), min, max)
-}
-
-// The shortcut's number: what DCT_DCT with eob 0 adds to every pixel.
-pub fn shortcut(plan: Plan, v: i32) -> i32
-    requires { ⌜ Inner.Sized plan × (natAbs v ≤ 524288) ⌝ }
-    ensures { λ r. ⌜ (r ≡ Blocks.shortcut plan v) × (natAbs r ≤ 16777216) ⌝ }
-{
-    let w = plan.w;
-    let h = plan.h;
-    let shift = plan.shift;
-    let d = enter(Kind::Dct, w, h, v);
-    let d = d * 181 + 128 >> 8;
-    let d = rounded(d, shift);
-    d * 181 + 2176 >> 12
 }
 
 // Row y of the coefficients, which stand column by column.
@@ -101,7 +49,8 @@ fn load_row(t: &mut [i32], plan: Plan, coeff: &[i32], y: usize)
 // Step 4 on the first n numbers.
 fn round(t: &mut [i32], plan: Plan, n: usize, min: i32, max: i32)
     requires { ⌜ Inner.Rounds plan n (now t) ⌝ }
-    ensures { λ _. ⌜ Inner.Filled (now (t .entry)) 0 1 (λ i. Inner.rounding plan min max (at (now (t .entry)) i)) n (now (t .exit)) ⌝ }
+    ensures { λ _. ⌜ Inner.Filled (now (t .entry)) 0 1
+        (λ i. rounding (plan .rows) (plan .shift) min max (at (now (t .entry)) i)) n (now (t .exit)) ⌝ }
 {
     let rows = plan.rows;
     let shift = plan.shift;

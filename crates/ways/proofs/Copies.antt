@@ -30,6 +30,7 @@ module _ {p : Plan} {c t : List ℤ} (k : Widened p c t) where
   resolved-copy {e = e} {d = d} {r = r} l m =
       record {
         elements = λ y x a b. m .elements y x a b ∙ ap (λ (s : Passed). at (s .values) y) (column-alike (way-by e p d) t c back r x);
+        rest = m .rest;
         small = m .small;
         long = m .long;
         mark-is = m .mark-is ∙ marked-alike (way-by e p d) t c back r l;

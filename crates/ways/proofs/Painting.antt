@@ -22,7 +22,8 @@ use Rattle.pixels.specs.Adds.{add-pixel, add-rows}
 use Rattle.pixels.specs.Inner.{left, Adding, Shifting}
 use Rattle.pixels.proofs.Pixels.{rows-ext}
 use Rattle.residual.specs.declared.Engine.{Engine}
-use Rattle.residual.specs.Blocks.{way-by, residual, shortcut}
+use Rattle.scaling.specs.Scaling.{shortcut}
+use Rattle.residual.specs.Blocks.{way-by, residual}
 use Rattle.residual.specs.Inner.{Sized, ResolvedIn, wht-plan}
 use Rattle.residual.proofs.Places.{by-row}
 use Rattle.ways.specs.Inner.{Ready, Passed, Shortened}

@@ -14,7 +14,8 @@ use Rattle.strided.specs.declared.Spot.{Spot}
 use Rattle.pixels.specs.Adds.{add-rows}
 use Rattle.coefs.specs.Coefs.{Covers}
 use Rattle.residual.specs.declared.Engine.{Engine}
-use Rattle.residual.specs.Blocks.{way-by, residual, marked, shortcut}
+use Rattle.scaling.specs.Scaling.{shortcut}
+use Rattle.residual.specs.Blocks.{way-by, residual, marked}
 use Rattle.residual.specs.Inner.{Sized, Coefs}
 use Rattle.checks.specs.Table.{Call, plain, live}
 

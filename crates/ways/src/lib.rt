@@ -24,7 +24,7 @@ use pixels::shift_block_8bpc;
 use residual::Engine;
 use residual::resolve;
 use residual::resolve_wht;
-use residual::shortcut;
+use scaling::shortcut;
 use strided::Spot;
 
 // The long way of WHT_WHT, whose sixteen numbers ask for no larger block.

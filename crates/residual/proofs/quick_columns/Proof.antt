@@ -42,6 +42,7 @@ returns-2 c =
       elements = record {
         passed = λ y x h g. taken .rows y x h g ∙ value (s .pre .0 .is-length) (e .lay .ensures) (s .pre .0 .limited tt) all x g y h;
         waiting = λ y x h k g. (let f : ⊥ = omega arith in absurd f);
+        rest = taken .rest;
         long = taken .long;
       };
       marked = sym (any-none (s .args .w) _ (λ x h. unmarked (s .pre .0 .is-length) (e .lay .ensures) (s .pre .0 .limited tt) all x h));

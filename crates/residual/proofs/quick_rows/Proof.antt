@@ -14,8 +14,7 @@ use Rattle.levels.specs.declared.Kind.{Kind}
 use Rattle.levels.specs.declared.Kind.the-variants.{Dct}
 use Rattle.passes.specs.Inner.{Limited, Ranged}
 use Rattle.residual.specs.Inner.{loaded}
-use Rattle.residual.proofs.Places.{h-small}
-use Rattle.residual.proofs.Small.{loaded-small}
+use Rattle.residual.proofs.Places.{loaded-small, h-small}
 use Rattle.residual.proofs.Steps.{rows-are}
 use Rattle.residual.proofs.Quick.{never, ready, value, unmarked, all-left, gave-up, succeeded}
 use Rattle.residual.proofs.quick_rows.Statement.{statement}

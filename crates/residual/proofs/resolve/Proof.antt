@@ -9,7 +9,8 @@ use Rattle.whole.specs.Numbers.{low, high}
 use Rattle.whole.specs.Lists.{at}
 use Rattle.passes.specs.Inner.{Limited}
 use Rattle.bitdepth.specs.Depths.{row-range, column-range}
-use Rattle.residual.specs.Inner.{Filled, rounding, RowsBy}
+use Rattle.scaling.specs.Scaling.{rounding}
+use Rattle.residual.specs.Inner.{Filled, RowsBy}
 use Rattle.bitdepth.proofs.Ends.{row-reach, column-reach, lo-is, hi-is, as-held, m-is}
 use Rattle.residual.proofs.Ends.{limited}
 use Rattle.residual.proofs.Places.{area, w-small, rows-fit}
@@ -58,7 +59,7 @@ module _ (c : tie.After-round) where
   s = start along
 
   rounded : Filled (along .rows-by .last .1 .0) 0 1
-      (λ i. rounding (s .args .plan) (low (column-range (s .args .depth))) (high (column-range (s .args .depth)))
+      (λ i. rounding (s .args .plan .rows) (s .args .plan .shift) (low (column-range (s .args .depth))) (high (column-range (s .args .depth)))
       (at (along .rows-by .last .1 .0) i)) (s .args .r * s .args .plan .w) (c .round .last .0)
   rounded =
       let e = c .before .before .before .before .column-range .ensures in let d = column-reach (s .args .depth) in

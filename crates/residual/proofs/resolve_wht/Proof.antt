@@ -37,7 +37,7 @@ module _ (d : Depth) where
   columns-are : (t u : List ℤ) → Columned 16 First Wht 0 4 4 t 4 u → ColumnsAreIn 16 First Wht (column-range d) 4 4 t 4 u false
   unfolding Rattle.passes.specs.Passes.pass
   columns-are t u h = record
-      { elements = record { passed = h .passed; waiting = h .waiting; long = h .long }; marked = sym (any-none 4 _ (λ x l. refl)) }
+      { elements = record { passed = h .passed; waiting = h .waiting; rest = h .rest; long = h .long }; marked = sym (any-none 4 _ (λ x l. refl)) }
 
 -- after the rows
 module _ (c : tie.After-rows-of-wht) where
@@ -55,7 +55,7 @@ returns c shift d =
     let u = c .before .columns-of-wht in let a = c .before .before .before .before in
     let h = resolved d (s a .pre) served (rowed a d) (unrounded _ _) (columns-are d _ (u .last .0) (u .ensures)) in
     -- no step takes the shift
-    record { elements = h .elements; small = h .small; long = h .long; mark-is = h .mark-is }
+    record { elements = h .elements; rest = h .rest; small = h .small; long = h .long; mark-is = h .mark-is }
 
 pub resolve-wht-spec : {M : Type 1} → statement M
 resolve-wht-spec = tie.close

@@ -5,18 +5,17 @@ use native.Mathlib.Omega.{arith}
 use mir.Syntax.{w32}
 use mir.Val.{toZ, ofZ}
 use mir.ValLaws.{toZ-ofZ}
-use Rattle.whole.specs.Numbers.{round2, clip}
 use Rattle.whole.specs.Lists.{at}
 use Rattle.whole.proofs.Held.{from2}
-use Rattle.levels.specs.Manners.{if-wht}
-use Rattle.residual.specs.Inner.{Filled, rounding}
+use Rattle.scaling.specs.Scaling.{rounding}
+use Rattle.residual.specs.Inner.{Filled}
 use Rattle.residual.proofs.Fills.{filled-none, filled-more}
 use Rattle.residual.proofs.round.Statement.{statement}
 use Rattle.residual.proofs.round.Tie as tie
 
 abbrev Inv-loop : tie.InvT-loop
 Inv-loop t₀ n min max rows shift i₀ t i =
-    Filled t₀ 0 1 (λ j. if-wht rows (at t₀ j) (clip (round2 (at t₀ j) shift) (toZ w32 min) (toZ w32 max))) i t × (i ≤ n)
+    Filled t₀ 0 1 (λ j. rounding rows shift (toZ w32 min) (toZ w32 max) (at t₀ j)) i t × (i ≤ n)
 
 abbrev μ-loop : tie.MeasureT-loop
 μ-loop t₀ n min max rows shift i₀ t i = n - i
@@ -32,7 +31,7 @@ loop-again c =
     let e = c .before in let h = e .before .before in let s = h .before .args in (
       filled-more (h .loop .inv .0) _ (omega arith) (omega arith)
           (toZ-ofZ w32 _ (record { sfits = c .between .ok }) ∙ c .between .ensures
-          ∙ ap (rounding (s .plan) (toZ w32 (ofZ w32 (s .min))) (toZ w32 (ofZ w32 (s .max)))) (held e)),
+          ∙ ap (rounding (s .plan .rows) (s .plan .shift) (toZ w32 (ofZ w32 (s .min))) (toZ w32 (ofZ w32 (s .max)))) (held e)),
       omega arith,
     )
 
@@ -41,6 +40,6 @@ round-spec =
     tie.close (tie.spec Inv-loop μ-loop (λ c. (filled-none, omega arith)) (λ c. omega arith) (λ c. omega arith)
     (λ c κs. let s = c .before .before .before in (rw (held c) (s .pre .small _), s .pre .shift-small))
     (λ c. omega arith) (λ c. omega arith) (λ c. omega arith) (λ c. omega arith) loop-again (λ c. c .before .loop .inv .0 .long) (λ c.
-    let s = c .before .before in let t = s .args .t .now in let all : c .before .loop .i ≡ s .args .n = omega arith in
-    from2 (λ lo hi. Filled t 0 1 (λ j. rounding (s .args .plan) lo hi (at t j)) (s .args .n) (c .before .loop .t)) (s .fits .min) (s .fits .max)
+    let s = c .before .before in let t = s .args .t .now in let p = s .args .plan in let all : c .before .loop .i ≡ s .args .n = omega arith in
+    from2 (λ lo hi. Filled t 0 1 (λ j. rounding (p .rows) (p .shift) lo hi (at t j)) (s .args .n) (c .before .loop .t)) (s .fits .min) (s .fits .max)
     (rw all at (c .before .loop .inv .0))))

@@ -13,8 +13,7 @@ use Rattle.passes.specs.Inner.{Limited}
 use Rattle.passes.proofs.Most.{at-most}
 use Rattle.residual.specs.Inner.{RowsBy}
 use Rattle.residual.proofs.Fills.{rows-none}
-use Rattle.residual.proofs.Places.{area, rows-fit}
-use Rattle.residual.proofs.Small.{loaded-small}
+use Rattle.residual.proofs.Places.{loaded-small, area, rows-fit}
 use Rattle.residual.proofs.Steps.{row-passable, rows-are-more}
 use Rattle.residual.proofs.rows_by_line.Statement.{statement}
 use Rattle.residual.proofs.rows_by_line.Tie as tie

@@ -7,7 +7,7 @@ use lib.Dec.{lit≤}
 use Rattle.whole.specs.Lists.{at}
 use Rattle.residual.specs.Inner.{wht-plan, row-made, HoldsIn}
 use Rattle.residual.proofs.Fills.{rows-none, rows-more}
-use Rattle.residual.proofs.Small.{loaded-small}
+use Rattle.residual.proofs.Places.{loaded-small}
 use Rattle.residual.proofs.Steps.{row-passable, row-filled}
 use Rattle.residual.proofs.rows_of_wht.Statement.{statement}
 use Rattle.residual.proofs.rows_of_wht.Tie as tie

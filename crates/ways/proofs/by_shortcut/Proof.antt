@@ -8,7 +8,8 @@ use mir.ValLaws.{toZ-ofZ}
 use borrow.Author.Needs.{needs}
 use Rattle.whole.specs.Lists.{at}
 use Rattle.bitdepth.specs.Depths.{maximum}
-use Rattle.residual.specs.Blocks.{shortcut}
+use Rattle.scaling.specs.Scaling.{shortcut}
+use Rattle.residual.proofs.Places.{w-small, h-small}
 use Rattle.ways.proofs.Painting.{area, there, shifting, shortened}
 use Rattle.ways.proofs.by_shortcut.Statement.{statement}
 use Rattle.ways.proofs.by_shortcut.Tie as tie
@@ -33,8 +34,10 @@ module _ (o : tie.After-shortcut) where
 
 pub by-shortcut-spec : {M : Type 1} → statement M
 by-shortcut-spec = tie.close (tie.spec (λ c κs. search needs) (λ c. there (c .before .before .pre))
-    (λ c κs. let s = c .before .before .before in (
-      s .pre .sized,
+    (λ c κs. let s = c .before .before .before in let p = s .args .plan in (
+      w-small p (s .pre .sized),
+      h-small p (s .pre .sized),
+      s .pre .sized .shift-small,
       subst⁻¹ (λ (z : ℤ). natAbs z ≤ 524288)
           (toZ-ofZ w32 (at (s .args .coeff .now) 0) (record { sfits = c .first .given })) (s .pre .coefs .small 0 (area (s .pre))),
     )) (λ c κs. shifting (begun (c .before) .pre) (small (c .before)))

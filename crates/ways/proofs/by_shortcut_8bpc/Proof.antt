@@ -8,7 +8,8 @@ use mir.ValLaws.{toZ-ofZ}
 use borrow.Author.Needs.{needs}
 use Rattle.whole.specs.Lists.{at}
 use Rattle.coefs.proofs.Shorts.{wide-fits, wide-is}
-use Rattle.residual.specs.Blocks.{shortcut}
+use Rattle.scaling.specs.Scaling.{shortcut}
+use Rattle.residual.proofs.Places.{w-small, h-small}
 use Rattle.ways.proofs.Painting.{area, there, shifting, shortened}
 use Rattle.ways.proofs.by_shortcut_8bpc.Statement.{statement}
 use Rattle.ways.proofs.by_shortcut_8bpc.Tie as tie
@@ -40,8 +41,10 @@ module _ (o : tie.After-shortcut) where
 pub by-shortcut-8bpc-spec : {M : Type 1} → statement M
 by-shortcut-8bpc-spec =
     tie.close (tie.spec (λ c. there (c .before .pre)) (λ c. wide-fits (at (start c .args .coeff .now) 0) (read c))
-    (λ c κs. let s = start c in (
-      s .pre .sized,
+    (λ c κs. let s = start c in let p = s .args .plan in (
+      w-small p (s .pre .sized),
+      h-small p (s .pre .sized),
+      s .pre .sized .shift-small,
       subst⁻¹ (λ (z : ℤ). natAbs z ≤ 524288) (wide-is (at (s .args .coeff .now) 0) (read c)) (s .pre .coefs .small 0 (area (s .pre))),
     )) (λ c κs. shifting (begun (c .before) .pre) (small (c .before)))
     (λ c. there (begun (c .before .before .before .before) .pre)) (λ c. search needs) (λ c. search needs)

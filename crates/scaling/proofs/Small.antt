@@ -1,7 +1,7 @@
--- Every number of a block fits with room to spare.
+-- What a small number becomes is small.
 use mathlib.Core.Bool.{Bool, true, false, cond, _||_}
-use mathlib.Core.List.{List, [], _∷_}
-use Prim.Native.Nat.{ℕ, zero, suc, _+_, _*_, _≤_, _<_}
+use mathlib.Core.List.{[], _∷_}
+use Prim.Native.Nat.{ℕ, zero, suc, _*_, _≤_}
 use native.Mathlib.Nat.{le-trans}
 use native.Mathlib.Omega.{arith}
 use lib.Dec.{eqb, lit≤}
@@ -10,10 +10,7 @@ use Rattle.whole.specs.Numbers.{_>>_, round2}
 use Rattle.whole.proofs.Machine.{var, lit, _⊕_, _⊛_, _≫_, bound}
 use Rattle.levels.specs.declared.Kind.{Kind}
 use Rattle.levels.proofs.Manners.{split}
-use Rattle.residual.specs.Blocks.{prescale}
-use Rattle.residual.specs.Inner.{entering, Coefs, loaded}
-use Rattle.levels.specs.declared.Plan.{Plan}
-use Rattle.residual.proofs.Places.{by-column}
+use Rattle.scaling.specs.Scaling.{prescale, entering}
 
 prescaled : (w h : ℕ) (v : ℤ) → natAbs v ≤ 524288 → natAbs (prescale w h v) ≤ 524288
 unfolding prescale Rattle.whole.specs.Numbers.round2 Rattle.whole.specs.Numbers._>>_
@@ -29,9 +26,6 @@ quartered v l = le-trans (bound (v ∷ []) (524288 ∷ []) (l, tt) (var 0 ≫ 2)
 
 pub entering-small : (k : Kind) (w h : ℕ) (v : ℤ) → natAbs v ≤ 524288 → natAbs (entering k w h v) ≤ 524288
 entering-small k w h v l = split (λ z. natAbs z ≤ 524288) k (v >> 2) (prescale w h v) (λ t. quartered v l) (prescaled w h v l)
-
-pub loaded-small : {p : Plan} {c : List ℤ} → Coefs p c → (y x : ℕ) → y < p .h → x < p .w → natAbs (loaded p c y x) ≤ 524288
-loaded-small {p} h y x l g = entering-small (p .rows) (p .w) (p .h) _ (h .small (y + x * p .h) (by-column (p .w) (p .h) y x l g))
 
 pub rounded-small : (v : ℤ) (k : ℕ) → natAbs v ≤ 524288 → k ≤ 2 → natAbs (round2 v k) ≤ 524288
 unfolding Rattle.whole.specs.Numbers.round2 Rattle.whole.specs.Numbers._>>_

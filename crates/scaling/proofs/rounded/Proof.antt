@@ -1,4 +1,4 @@
--- `residual::rounded` meets its contract.
+-- `scaling::rounded` meets its contract.
 use mathlib.Core.Path.{_≡_}
 use mathlib.Core.List.{[], _∷_}
 use native.Mathlib.Omega.{arith}
@@ -7,8 +7,8 @@ use mir.Syntax.{w32}
 use mir.ValLaws.{toZ-ofZ}
 use Rattle.whole.specs.Numbers.{_>>_, round2}
 use Rattle.whole.proofs.Machine.{var, lit, _⊕_, _≫_, need, reads}
-use Rattle.residual.proofs.rounded.Statement.{statement}
-use Rattle.residual.proofs.rounded.Tie as tie
+use Rattle.scaling.proofs.rounded.Statement.{statement}
+use Rattle.scaling.proofs.rounded.Tie as tie
 
 returns : tie.Need-returns
 unfolding Rattle.whole.specs.Numbers.round2

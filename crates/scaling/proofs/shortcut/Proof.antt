@@ -1,4 +1,4 @@
--- `residual::shortcut` meets its contract.
+-- `scaling::shortcut` meets its contract.
 use mathlib.Core.Path.{_≡_, ap, _∙_, subst⁻¹}
 use mathlib.Core.List.{[], _∷_}
 use Prim.Native.Nat.{_≤_}
@@ -7,15 +7,15 @@ use lib.Dec.{lit≤}
 use lib.IntN.{ℤ, pos, _+ℤ_, _*ℤ_, natAbs}
 use mir.Syntax.{w32}
 use mir.ValLaws.{toZ-ofZ}
+use borrow.Author.Needs.{needs}
 use Rattle.whole.specs.Numbers.{_>>_, round2}
 use Rattle.whole.proofs.Machine.{E, var, lit, _⊕_, _⊛_, _≫_, ev, bound, need, reads, held-small}
 use Rattle.levels.specs.declared.Plan.{Plan}
 use Rattle.levels.specs.declared.Kind.the-variants.{Dct}
-use Rattle.residual.specs.Blocks.{prescale, shortcut}
-use Rattle.residual.proofs.Places.{w-small, h-small}
-use Rattle.residual.proofs.Small.{entering-small, rounded-small}
-use Rattle.residual.proofs.shortcut.Statement.{statement}
-use Rattle.residual.proofs.shortcut.Tie as tie
+use Rattle.scaling.specs.Scaling.{prescale, shortcut}
+use Rattle.scaling.proofs.Small.{entering-small, rounded-small}
+use Rattle.scaling.proofs.shortcut.Statement.{statement}
+use Rattle.scaling.proofs.shortcut.Tie as tie
 
 abbrev product : E
 product = var 0 ⊛ lit (pos 181)
@@ -38,7 +38,7 @@ module _ (c : tie.After-enter) where
   entered = c .enter .ensures ∙ ap (prescale (p .w) (p .h)) (toZ-ofZ w32 (s .args .v) (s .fits .v))
 
   entered-small : natAbs (c .enter .result) ≤ 524288
-  entered-small = subst⁻¹ (λ (z : ℤ). natAbs z ≤ 524288) entered (entering-small Dct (p .w) (p .h) (s .args .v) (s .pre .1))
+  entered-small = subst⁻¹ (λ (z : ℤ). natAbs z ≤ 524288) entered (entering-small Dct (p .w) (p .h) (s .args .v) (s .pre .3))
 
   -- the number that is rounded
   abbrev d₁ : ℤ
@@ -50,7 +50,7 @@ module _ (c : tie.After-enter) where
 rounded-requires : tie.Need-rounded-requires
 rounded-requires c κs = (
   le-trans (held-small (c .enter .result ∷ []) (524288 ∷ []) (entered-small c, tt) scaled w32 tt) (lit≤ tt),
-  c .before .pre .0 .shift-small,
+  c .before .pre .2,
 )
 
 -- after the rounding
@@ -63,7 +63,7 @@ module _ (c : tie.After-rounded) where
       (reads (e .enter .result ∷ []) (524288 ∷ []) (entered-small e, tt) scaled w32 tt)
 
   small : natAbs (c .rounded .result) ≤ 524288
-  small = subst⁻¹ (λ (z : ℤ). natAbs z ≤ 524288) rounded (rounded-small (d₁ e) (p e .shift) (d₁-small e) (s e .pre .0 .shift-small))
+  small = subst⁻¹ (λ (z : ℤ). natAbs z ≤ 524288) rounded (rounded-small (d₁ e) (p e .shift) (d₁-small e) (s e .pre .2))
 
   is-shortcut : c .rounded .result *ℤ pos 181 +ℤ pos 2176 >> 12 ≡ shortcut (p e) (s e .args .v)
   unfolding shortcut Rattle.whole.specs.Numbers.round2 Rattle.whole.specs.Numbers._>>_
@@ -79,9 +79,7 @@ returns c = (
 
 pub shortcut-spec : {M : Type 1} → statement M
 shortcut-spec =
-    tie.close (tie.spec (λ c κs.
-    let p = c .args .plan in
-    ((w-small p (c .pre .0), h-small p (c .pre .0)), subst⁻¹ (λ (z : ℤ). natAbs z ≤ 524288) (toZ-ofZ w32 (c .args .v) (c .fits .v)) (c .pre .1)))
+    tie.close (tie.spec (λ c κs. search needs)
     (λ c. need (c .enter .result ∷ []) (524288 ∷ []) (entered-small c, tt) product w32 tt)
     (λ c. need (c .enter .result ∷ []) (524288 ∷ []) (entered-small c, tt) (product ⊕ lit (pos 128)) w32 tt)
     rounded-requires (λ c. need (c .rounded .result ∷ []) (524288 ∷ []) (small c, tt) product w32 tt)

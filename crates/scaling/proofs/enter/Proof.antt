@@ -1,4 +1,4 @@
--- `residual::enter` meets its contract.
+-- `scaling::enter` meets its contract.
 use mathlib.Core.Path.{_≡_, sym, ap, _∙_}
 use mathlib.Core.Bool.{Bool, true, false, cond, _||_}
 use mathlib.Core.List.{[], _∷_}
@@ -10,10 +10,10 @@ use mir.ValLaws.{toZ-ofZ}
 use borrow.Author.Needs.{needs}
 use Rattle.whole.specs.Numbers.{_>>_, round2}
 use Rattle.whole.proofs.Machine.{var, lit, _⊕_, _⊛_, _≫_, need, reads}
-use Rattle.residual.specs.Blocks.{prescale}
+use Rattle.scaling.specs.Scaling.{prescale}
 use Rattle.levels.proofs.Manners.{of-wht, of-other}
-use Rattle.residual.proofs.enter.Statement.{statement}
-use Rattle.residual.proofs.enter.Tie as tie
+use Rattle.scaling.proofs.enter.Statement.{statement}
+use Rattle.scaling.proofs.enter.Tie as tie
 
 returns : tie.Need-returns
 unfolding Rattle.whole.specs.Numbers._>>_

@@ -1,12 +1,12 @@
--- `residual::between` meets its contract.
+-- `scaling::between` meets its contract.
 use mathlib.Core.Path.{_∙_}
 use mir.Syntax.{w32}
 use mir.ValLaws.{toZ-ofZ}
 use borrow.Author.Needs.{needs}
 use Rattle.whole.specs.Numbers.{round2, clip}
 use Rattle.levels.proofs.Manners.{of-wht, of-other}
-use Rattle.residual.proofs.between.Statement.{statement}
-use Rattle.residual.proofs.between.Tie as tie
+use Rattle.scaling.proofs.between.Statement.{statement}
+use Rattle.scaling.proofs.between.Tie as tie
 
 returns-2 : tie.Need-returns-2
 returns-2 c =
