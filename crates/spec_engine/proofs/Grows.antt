@@ -8,20 +8,21 @@ use lib.ListN.{replicate}
 use Rattle.whole.specs.Both.{Both}
 use Rattle.levels.specs.Sides.{Side, bits}
 use Rattle.av1.proofs.Sides.{by-side}
-use Rattle.av1.specs.Network.{Step, steps}
+use Rattle.av1.specs.Network.{Step, turn, mix, steps}
 use Rattle.av1.specs.Bounds.{Small, growth, fitting}
 use Rattle.av1.proofs.Bounds.{two-told, able-now}
 use Rattle.spec_engine.specs.Growth.{Workable, fits}
-use Rattle.spec_engine.specs.Lines.{step-of, Able}
+use Rattle.spec_engine.specs.Lines.{Able}
 
 pub exchanged : {a b : ℕ} {t : List ℤ} → Workable t b a → Workable t a b
 exchanged o = record { a-in = o .b-in; b-in = o .a-in; x-small = o .y-small; y-small = o .x-small }
 
-pub able-step : {ss : List Step} {t : List ℤ} (turns : Bool) (a b angle : ℕ) (flip : Bool) → Able (step-of turns a b angle flip ∷ ss) t
-    → Workable t a b
-able-step true a b angle flip w = two-told (w .inside) a b 33554432 (able-now w)
-able-step false a b angle false w = two-told (w .inside) a b 33554432 (able-now w)
-able-step false a b angle true w = exchanged (two-told (w .inside) b a 33554432 (able-now w))
+pub able-turn : {ss : List Step} {t : List ℤ} (a b angle : ℕ) (flip : Bool) → Able (turn a b angle flip ∷ ss) t → Workable t a b
+able-turn a b angle flip w = two-told (w .inside) a b 33554432 (able-now w)
+
+pub able-mix : {ss : List Step} {t : List ℤ} (a b : ℕ) (flip : Bool) → Able (mix a b flip ∷ ss) t → Workable t a b
+able-mix a b false w = two-told (w .inside) a b 33554432 (able-now w)
+able-mix a b true w = exchanged (two-told (w .inside) b a 33554432 (able-now w))
 
 -- all of them, from a work array of the widest range
 pub begin : (n : Side) {t : List ℤ} → Both Small t (replicate 32 524288) → Able (steps (bits n)) t

@@ -1,55 +1,72 @@
 -- The table of section 7.13.2.3 as the code runs it.
-use mathlib.Core.Bool.{Bool, true, false, cond, _&&_}
-use mathlib.Core.List.{List, [], _∷_, _++_}
-use Prim.Native.Nat.{ℕ, _+_, _-_}
-use lib.Dec.{T, eqb, leb}
+use mathlib.Core.Path.{_≡_}
+use mathlib.Core.Bool.{Bool, false, cond}
+use mathlib.Core.List.{List, [], _∷_}
+use Prim.Native.Nat.{ℕ, _+_, _-_, _*_, _/_, _%_, _≤_}
+use lib.Dec.{eqb, leb, ltb}
 use lib.IntN.{ℤ}
-use lib.ListN.{length, getD, take, drop}
-use Rattle.av1.specs.Network.{Step, turn, mix}
+use lib.ListN.{length, getD}
+use Rattle.whole.specs.Lists.{tab, any}
+use Rattle.av1.specs.Network.{Step, turn, mix, join}
 use Rattle.av1.specs.Bounds.{growth, AbleBy}
 use Rattle.spec_engine.specs.Growth.{fits}
-
-abbrev pub step-of : Bool → ℕ → ℕ → ℕ → Bool → Step
-step-of turns a b angle flip = cond turns (turn a b angle flip) (mix a b flip)
-
--- a row is a, b, angle, flip
-abbrev pub line : Bool → List (List ℕ) → List Step
-line turns [] = []
-line turns (r ∷ rs) = step-of turns (getD r 0 0) (getD r 1 0) (getD r 2 0) (eqb (getD r 3 0) 1) ∷ line turns rs
-
--- every angle is at most 128
-abbrev pub angled : List (List ℕ) → Bool
-angled [] = true
-angled (r ∷ rs) = leb (getD r 2 0) 128 && angled rs
 
 -- the work array is such that the steps can be run
 abbrev pub Able : List Step → List ℤ → Type 0
 Able = AbleBy growth fits false
 
-pub record Runs (turns : Bool) (rs : List (List ℕ)) (t : List ℤ) : Type 0 where
-  pub able : Able (line turns rs) t
-  pub angles : T (angled rs)
+-- the steps of g 0, g 1, .., g (k - 1)
+abbrev pub each : ℕ → (ℕ → List Step) → List Step
+each k g = join (tab k g)
 
--- ---- the lines, whose rows stand one after the other
+-- ---- a line of H
+
+abbrev pub mirror : ℕ → ℕ → Bool → List Step
+mirror base size flip = each (size / 2) (λ j. mix (base + j) (base + size - 1 - j) flip ∷ [])
+
+abbrev pub mirrors : ℕ → ℕ → ℕ → List Step
+mirrors base size count = each count (λ i. mirror (base + size * i) size (eqb (i % 2) 1))
+
+-- ---- a line of B, whose rows are a, b, angle, flip
 
 module _ (rows : List (List ℕ)) where
-  abbrev pub part : ℕ → ℕ → List (List ℕ)
-  part from end = take (end - from) (drop from rows)
+  abbrev pub rotation : ℕ → Step
+  rotation i = let r = getD rows i [] in turn (getD r 0 0) (getD r 1 0) (getD r 2 0) (eqb (getD r 3 0) 1)
 
-  -- a line is its least n, whether it turns, and its number of rows
-  abbrev pub laid : ℕ → List (List ℕ) → ℕ → List Step
-  laid n [] from = []
-  laid n (l ∷ ls) from =
-      cond (leb (getD l 0 0) n) (line (eqb (getD l 1 0) 1) (part from (from + getD l 2 0))) [] ++ laid n ls (from + getD l 2 0)
+  abbrev pub turns : ℕ → ℕ → List Step
+  turns from count = each count (λ i. rotation (from + i) ∷ [])
 
-  -- the rows are there, and no number is too large
-  abbrev pub sound : ℕ → ℕ → ℕ → Bool
-  sound least from end = leb least 5 && (leb end (length rows) && angled (part from end))
+-- no angle is above 128
+abbrev pub Angled : List (List ℕ) → Type 0
+Angled rows = any (length rows) (λ i. ltb 128 (getD (getD rows i []) 2 0)) ≡ false
 
-  abbrev pub all-sound : List (List ℕ) → ℕ → Bool
-  all-sound [] from = true
-  all-sound (l ∷ ls) from = sound (getD l 0 0) from (from + getD l 2 0) && all-sound ls (from + getD l 2 0)
+pub record Turns (rows : List (List ℕ)) (from count : ℕ) (t : List ℤ) : Type 0 where
+  pub able : Able (turns rows from count) t
+  pub there : from + count ≤ length rows
+  pub angles : Angled rows
 
-pub record Walks (n : ℕ) (ls rows : List (List ℕ)) (t : List ℤ) : Type 0 where
-  pub able : Able (laid rows n ls 0) t
-  pub checked : T (all-sound rows ls 0)
+-- ---- the lines, whose rows are least n, base, size, count
+
+module _ (rows : List (List ℕ)) (n : ℕ) where
+  abbrev pub line : ℕ → ℕ → ℕ → ℕ → List Step
+  line least base size count = cond (leb least n) (cond (eqb size 0) (turns rows base count) (mirrors base size count)) []
+
+  abbrev pub row : List ℕ → List Step
+  row l = line (getD l 0 0) (getD l 1 0) (getD l 2 0) (getD l 3 0)
+
+  abbrev pub laid : List (List ℕ) → List Step
+  laid ls = each (length ls) (λ i. row (getD ls i []))
+
+-- a line reaches beyond the rows, or its mirrors beyond T
+abbrev pub beyond : List (List ℕ) → ℕ → ℕ → ℕ → Bool
+beyond rows base size count = cond (eqb size 0) (ltb (length rows) (base + count)) (ltb 32 (base + size * count))
+
+pub record Line (rows : List (List ℕ)) (n least base size count : ℕ) (t : List ℤ) : Type 0 where
+  pub able : Able (line rows n least base size count) t
+  pub there : beyond rows base size count ≡ false
+  pub angles : Angled rows
+
+pub record Walks (rows : List (List ℕ)) (n : ℕ) (ls : List (List ℕ)) (t : List ℤ) : Type 0 where
+  pub able : Able (laid rows n ls) t
+  pub there : any (length ls) (λ i. let l = getD ls i [] in beyond rows (getD l 1 0) (getD l 2 0) (getD l 3 0)) ≡ false
+  pub angles : Angled rows

@@ -16,7 +16,7 @@
 // Left out: the ADSTs (7.13.2.4 to 7.13.2.9), and in 7.13.2.3 the lines that are for n equal to 6 alone, 64 points. So the lines are numbered anew
 // here, 1 to 20, in the specification's order.
 ghost use mathlib.Core.Path.{_≡_};
-ghost use Prim.Native.Nat.{_*_, _/_, _^_, _≤_};
+ghost use Prim.Native.Nat.{_+_, _*_, _/_, _^_, _≤_};
 ghost use lib.IntN.{pos, natAbs};
 ghost use lib.ListN.{getD, length, replicate};
 ghost use Rattle.whole.specs.Numbers as Numbers;
@@ -190,77 +190,94 @@ fn permute(t: &mut [i32; 32], n: usize)
 
 // ---- 7.13.2.3: inverse DCT process
 
-// B( a, b, angle, flip ) if it turns, and else H( a, b, flip ), which has no angle.
-fn step(t: &mut [i32; 32], turns: bool, a: usize, b: usize, angle: usize, flip: bool)
-    requires { ⌜ Workable (now t) a b × (angle ≤ 128) ⌝ }
-    ensures { λ _. ⌜ now (t .exit) ≡ Network.step exact (Lines.step-of turns a b angle flip) (now (t .entry)) ⌝ }
+// A line of B: the rotations of `count` rows a, b, angle, flip, from row `from` on.
+fn turns(t: &mut [i32; 32], rows: &[[u8; 4]], from: usize, count: usize)
+    requires { ⌜ Lines.Turns (now rows) from count (now t) ⌝ }
+    ensures { λ _. ⌜ now (t .exit) ≡ Network.run exact (Lines.turns (now (rows .entry)) from count) (now (t .entry)) ⌝ }
 {
-    if turns {
-        rotate(t, a, b, angle, flip);
-    } else {
-        hadamard(t, a, b, flip);
+    for i in 0..count {
+        let row = rows[from + i];
+        let a = row[0] as usize;
+        let b = row[1] as usize;
+        let angle = row[2] as usize;
+        rotate(&mut *t, a, b, angle, row[3] == 1);
     }
 }
 
-// A line of the process: a step for each row a, b, angle, flip.
-fn line(t: &mut [i32; 32], turns: bool, rows: &[[u8; 4]])
-    requires { ⌜ Lines.Runs turns (now rows) (now t) ⌝ }
-    ensures { λ _. ⌜ now (t .exit) ≡ Network.run exact (Lines.line turns (now (rows .entry))) (now (t .entry)) ⌝ }
+// A mirror, H of the first and the last of `size` elements, of the second and the last but one, and so on:
+// H( base + j, base + size - 1 - j, flip ) for j = 0..size/2-1.
+fn mirror(t: &mut [i32; 32], base: usize, size: usize, flip: bool)
+    requires { ⌜ Lines.Able (Lines.mirror base size flip) (now t) × (base + size ≤ 32) ⌝ }
+    ensures { λ _. ⌜ now (t .exit) ≡ Network.run exact (Lines.mirror base size flip) (now (t .entry)) ⌝ }
 {
-    for i in 0..rows.len() {
-        let a = rows[i][0] as usize;
-        let b = rows[i][1] as usize;
-        let angle = rows[i][2] as usize;
-        let flip = rows[i][3];
-        step(&mut *t, turns, a, b, angle, flip == 1);
+    for j in 0..size / 2 {
+        hadamard(&mut *t, base + j, base + size - 1 - j, flip);
     }
 }
 
-// The lines that are for this n, in order. A line is the least n that it is for, 1 if it is of B and 0 if it is of H, and the number of its rows,
-// which stand after those of the lines before it.
-fn walk(t: &mut [i32; 32], n: usize, lines: &[[u8; 3]], rows: &[[u8; 4]])
-    requires { ⌜ Lines.Walks n (now lines) (now rows) (now t) ⌝ }
-    ensures { λ _. ⌜ now (t .exit) ≡ Network.run exact (Lines.laid (now (rows .entry)) n (now (lines .entry)) 0) (now (t .entry)) ⌝ }
+// A line of H: `count` mirrors side by side, of which every second one flips. So each line of H is written
+// H( base + size * i + j, base + size * i + size - 1 - j, i & 1 ) for i = 0..count-1, j = 0..size/2-1.
+fn mirrors(t: &mut [i32; 32], base: usize, size: usize, count: usize)
+    requires { ⌜ Lines.Able (Lines.mirrors base size count) (now t) × (base + size * count ≤ 32) ⌝ }
+    ensures { λ _. ⌜ now (t .exit) ≡ Network.run exact (Lines.mirrors base size count) (now (t .entry)) ⌝ }
 {
-    let mut from = 0usize;
-    for l in 0..lines.len() {
-        let least = lines[l][0] as usize;
-        let turns = lines[l][1];
-        let end = from + lines[l][2] as usize;
-        if least <= n {
-            line(&mut *t, turns == 1, &rows[from..end]);
+    for i in 0..count {
+        mirror(&mut *t, base + size * i, size, i % 2 == 1);
+    }
+}
+
+// A line, if it is for this n: a line of B, which size 0 marks, is `count` rows from row `base` on.
+fn line(t: &mut [i32; 32], rows: &[[u8; 4]], n: usize, least: u8, base: u8, size: u8, count: u8)
+    requires { ⌜ Lines.Line (now rows) n least base size count (now t) ⌝ }
+    ensures { λ _. ⌜ now (t .exit) ≡ Network.run exact (Lines.line (now (rows .entry)) n least base size count) (now (t .entry)) ⌝ }
+{
+    if least as usize <= n {
+        if size == 0 {
+            turns(t, rows, base as usize, count as usize);
+        } else {
+            mirrors(t, base as usize, size as usize, count as usize);
         }
-        from = end;
     }
 }
 
-// Lines 1 to 20: least n, 1 for B and 0 for H, number of rows.
-const LINES: [[u8; 3]; 20] = [
-    [5, 1, 8],
-    [4, 1, 4],
-    [5, 0, 8],
-    [3, 1, 2],
-    [4, 0, 4],
-    [5, 1, 4],
-    [2, 1, 2],
-    [3, 0, 2],
-    [4, 1, 2],
-    [5, 0, 8],
-    [2, 0, 2],
-    [3, 1, 1],
-    [4, 0, 4],
-    [5, 1, 4],
-    [3, 0, 4],
-    [4, 1, 2],
-    [5, 0, 8],
-    [4, 0, 8],
-    [5, 1, 4],
-    [5, 0, 16],
+// The lines in order.
+fn walk(t: &mut [i32; 32], rows: &[[u8; 4]], n: usize, lines: &[[u8; 4]])
+    requires { ⌜ Lines.Walks (now rows) n (now lines) (now t) ⌝ }
+    ensures { λ _. ⌜ now (t .exit) ≡ Network.run exact (Lines.laid (now (rows .entry)) n (now (lines .entry))) (now (t .entry)) ⌝ }
+{
+    for i in 0..lines.len() {
+        let l = lines[i];
+        line(&mut *t, rows, n, l[0], l[1], l[2], l[3]);
+    }
+}
+
+// Lines 1 to 20: the least n that a line is for, then base, size, count.
+const LINES: [[u8; 4]; 20] = [
+    [5, 0, 0, 8], // 1: B
+    [4, 8, 0, 4], // 2: B
+    [5, 16, 2, 8], // 3: H( 16 + i * 2, 17 + i * 2, i & 1 ) for i = 0..7
+    [3, 12, 0, 2], // 4: B
+    [4, 8, 2, 4], // 5: H( 8 + i * 2, 9 + i * 2, i & 1 ) for i = 0..3
+    [5, 14, 0, 4], // 6: B
+    [2, 18, 0, 2], // 7: B
+    [3, 4, 2, 2], // 8: H( 4 + 2 * i, 5 + 2 * i, i ) for i = 0..1
+    [4, 20, 0, 2], // 9: B
+    [5, 16, 4, 4], // 10: H( 16 + 4 * i + j, 19 + 4 * i - j, i & 1 ) for i = 0..3, j = 0..1
+    [2, 0, 4, 1], // 11: H( i, 3 - i, 0 ) for i = 0..1
+    [3, 22, 0, 1], // 12: B
+    [4, 8, 4, 2], // 13: H( 8 + 4 * i + j, 11 + 4 * i - j, i ) for i = 0..1, j = 0..1
+    [5, 23, 0, 4], // 14: B
+    [3, 0, 8, 1], // 15: H( i, 7 - i, 0 ) for i = 0..3
+    [4, 27, 0, 2], // 16: B
+    [5, 16, 8, 2], // 17: H( 16 + i * 8 + j, 23 + i * 8 - j, i ) for i = 0..1, j = 0..3
+    [4, 0, 16, 1], // 18: H( i, 15 - i, 0 ) for i = 0..7
+    [5, 29, 0, 4], // 19: B
+    [5, 0, 32, 1], // 20: H( i, 31 - i, 0 ) for i = 0..15
 ];
 
-// Their rows: a, b, angle, flip of B, and a, b, 0, flip of H. Bytes, since the table is laid out at each call.
-const STEPS: [[u8; 4]; 97] = [
-    // 1, for n from 5: B( 16 + i, 31 - i, 6 + ( brev( 3, 7 - i ) << 3 ), 0 ) for i = 0..7
+// The rows of the lines of B: a, b, angle, flip. Bytes, since the table is laid out at each call.
+const STEPS: [[u8; 4]; 33] = [
+    // 1: B( 16 + i, 31 - i, 6 + ( brev( 3, 7 - i ) << 3 ), 0 ) for i = 0..7
     [16, 31, 62, 0],
     [17, 30, 30, 0],
     [18, 29, 46, 0],
@@ -269,114 +286,40 @@ const STEPS: [[u8; 4]; 97] = [
     [21, 26, 22, 0],
     [22, 25, 38, 0],
     [23, 24, 6, 0],
-    // 2, for n from 4: B( 8 + i, 15 - i, 12 + ( brev( 2, 3 - i ) << 4 ), 0 ) for i = 0..3
+    // 2: B( 8 + i, 15 - i, 12 + ( brev( 2, 3 - i ) << 4 ), 0 ) for i = 0..3
     [8, 15, 60, 0],
     [9, 14, 28, 0],
     [10, 13, 44, 0],
     [11, 12, 12, 0],
-    // 3, for n from 5: H( 16 + i * 2, 17 + i * 2, i & 1 ) for i = 0..7
-    [16, 17, 0, 0],
-    [18, 19, 0, 1],
-    [20, 21, 0, 0],
-    [22, 23, 0, 1],
-    [24, 25, 0, 0],
-    [26, 27, 0, 1],
-    [28, 29, 0, 0],
-    [30, 31, 0, 1],
-    // 4, for n from 3: B( 4 + i, 7 - i, 56 - 32 * i, 0 ) for i = 0..1
+    // 4: B( 4 + i, 7 - i, 56 - 32 * i, 0 ) for i = 0..1
     [4, 7, 56, 0],
     [5, 6, 24, 0],
-    // 5, for n from 4: H( 8 + i * 2, 9 + i * 2, i & 1 ) for i = 0..3
-    [8, 9, 0, 0],
-    [10, 11, 0, 1],
-    [12, 13, 0, 0],
-    [14, 15, 0, 1],
-    // 6, for n from 5: B( 30 - 4 * i - j, 17 + 4 * i + j, 24 + ( j << 6 ) + ( ( 1 - i ) << 5 ), 1 ) for i = 0..1, j = 0..1
+    // 6: B( 30 - 4 * i - j, 17 + 4 * i + j, 24 + ( j << 6 ) + ( ( 1 - i ) << 5 ), 1 ) for i = 0..1, j = 0..1
     [30, 17, 56, 1],
     [29, 18, 120, 1],
     [26, 21, 24, 1],
     [25, 22, 88, 1],
-    // 7, for n from 2: B( 2 * i, 2 * i + 1, 32 + 16 * i, 1 - i ) for i = 0..1
+    // 7: B( 2 * i, 2 * i + 1, 32 + 16 * i, 1 - i ) for i = 0..1
     [0, 1, 32, 1],
     [2, 3, 48, 0],
-    // 8, for n from 3: H( 4 + 2 * i, 5 + 2 * i, i ) for i = 0..1
-    [4, 5, 0, 0],
-    [6, 7, 0, 1],
-    // 9, for n from 4: B( 14 - i, 9 + i, 48 + 64 * i, 1 ) for i = 0..1
+    // 9: B( 14 - i, 9 + i, 48 + 64 * i, 1 ) for i = 0..1
     [14, 9, 48, 1],
     [13, 10, 112, 1],
-    // 10, for n from 5: H( 16 + 4 * i + j, 19 + 4 * i - j, i & 1 ) for i = 0..3, j = 0..1
-    [16, 19, 0, 0],
-    [17, 18, 0, 0],
-    [20, 23, 0, 1],
-    [21, 22, 0, 1],
-    [24, 27, 0, 0],
-    [25, 26, 0, 0],
-    [28, 31, 0, 1],
-    [29, 30, 0, 1],
-    // 11, for n from 2: H( i, 3 - i, 0 ) for i = 0..1
-    [0, 3, 0, 0],
-    [1, 2, 0, 0],
-    // 12, for n from 3: B( 6, 5, 32, 1 )
+    // 12: B( 6, 5, 32, 1 )
     [6, 5, 32, 1],
-    // 13, for n from 4: H( 8 + 4 * i + j, 11 + 4 * i - j, i ) for i = 0..1, j = 0..1
-    [8, 11, 0, 0],
-    [9, 10, 0, 0],
-    [12, 15, 0, 1],
-    [13, 14, 0, 1],
-    // 14, for n from 5: B( 29 - i, 18 + i, 48 + ( i >> 1 ) * 64, 1 ) for i = 0..3
+    // 14: B( 29 - i, 18 + i, 48 + ( i >> 1 ) * 64, 1 ) for i = 0..3
     [29, 18, 48, 1],
     [28, 19, 48, 1],
     [27, 20, 112, 1],
     [26, 21, 112, 1],
-    // 15, for n from 3: H( i, 7 - i, 0 ) for i = 0..3
-    [0, 7, 0, 0],
-    [1, 6, 0, 0],
-    [2, 5, 0, 0],
-    [3, 4, 0, 0],
-    // 16, for n from 4: B( 13 - i, 10 + i, 32, 1 ) for i = 0..1
+    // 16: B( 13 - i, 10 + i, 32, 1 ) for i = 0..1
     [13, 10, 32, 1],
     [12, 11, 32, 1],
-    // 17, for n from 5: H( 16 + i * 8 + j, 23 + i * 8 - j, i ) for i = 0..1, j = 0..3
-    [16, 23, 0, 0],
-    [17, 22, 0, 0],
-    [18, 21, 0, 0],
-    [19, 20, 0, 0],
-    [24, 31, 0, 1],
-    [25, 30, 0, 1],
-    [26, 29, 0, 1],
-    [27, 28, 0, 1],
-    // 18, for n from 4: H( i, 15 - i, 0 ) for i = 0..7
-    [0, 15, 0, 0],
-    [1, 14, 0, 0],
-    [2, 13, 0, 0],
-    [3, 12, 0, 0],
-    [4, 11, 0, 0],
-    [5, 10, 0, 0],
-    [6, 9, 0, 0],
-    [7, 8, 0, 0],
-    // 19, for n from 5: B( 27 - i, 20 + i, 32, 1 ) for i = 0..3
+    // 19: B( 27 - i, 20 + i, 32, 1 ) for i = 0..3
     [27, 20, 32, 1],
     [26, 21, 32, 1],
     [25, 22, 32, 1],
     [24, 23, 32, 1],
-    // 20, for n from 5: H( i, 31 - i, 0 ) for i = 0..15
-    [0, 31, 0, 0],
-    [1, 30, 0, 0],
-    [2, 29, 0, 0],
-    [3, 28, 0, 0],
-    [4, 27, 0, 0],
-    [5, 26, 0, 0],
-    [6, 25, 0, 0],
-    [7, 24, 0, 0],
-    [8, 23, 0, 0],
-    [9, 22, 0, 0],
-    [10, 21, 0, 0],
-    [11, 20, 0, 0],
-    [12, 19, 0, 0],
-    [13, 18, 0, 0],
-    [14, 17, 0, 0],
-    [15, 16, 0, 0],
 ];
 
 // All lines.
@@ -384,7 +327,7 @@ fn lines(t: &mut [i32; 32], n: usize)
     requires { ⌜ Lines.Able (Network.steps n) (now t) ⌝ }
     ensures { λ _. ⌜ now (t .exit) ≡ Network.run exact (Network.steps n) (now (t .entry)) ⌝ }
 {
-    walk(t, n, &LINES, &STEPS);
+    walk(t, &STEPS, n, &LINES);
 }
 
 // The inverse DCT of 2^n points: the permutation, then the lines.
