@@ -11,7 +11,7 @@ use Rattle.demands.specs.Known.{Case, Result, computed, expected, holds,
 
 -- to unfold these is to unfold all that their lines name
 passing : Unit {0}
-unfolding Numbers._>>_ Numbers.round2 Numbers.clip Numbers.outside Passes.identity Passes.wht Passes.pass Calls.put Calls.ranged Calls.unranged
+unfolding Numbers._>>_ Numbers.round2 Numbers.clip Numbers.outside Passes.identity Passes.wht Passes.pass Passes.put Calls.ranged Calls.unranged
 passing = tt
 
 adding : Unit {0}

@@ -65,20 +65,18 @@ serves Spec kind = specified kind
 
 -- "WHT_WHT: coefficients are shifted right by 2, rows, columns .. no step 2, 4 or rounding."
 abbrev pub way-by : Engine → Plan → Depth → Way
-way-by e p d =
-    let m = column-range d in
-    record {
-      w = p .w;
-      h = p .h;
-      enter = entering (p .rows) (p .w) (p .h);
-      -- step 3: "Row pass on every row, with the row range."
-      row = passed-by e (p .rows) (side (p .w)) (row-range d);
-      between = rounding (p .rows) (p .shift) (low m) (high m);
-      -- step 5: "Column pass with the column range."
-      column = passed-by e (p .columns) (side (p .h)) m;
-      -- step 6: "v + 8 >> 4"
-      leave = λ v. if-wht (p .columns) v (round2 v 4);
-    }
+way-by e p d = record {
+  w = p .w;
+  h = p .h;
+  enter = entering (p .rows) (p .w) (p .h);
+  -- step 3: "Row pass on every row, with the row range."
+  row = passed-by e (p .rows) (side (p .w)) (row-range d);
+  between = rounding (p .rows) (p .shift) (low (column-range d)) (high (column-range d));
+  -- step 5: "Column pass with the column range."
+  column = passed-by e (p .columns) (side (p .h)) (column-range d);
+  -- step 6: "v + 8 >> 4"
+  leave = λ v. if-wht (p .columns) v (round2 v 4);
+}
 
 -- the first engine's
 abbrev pub way : Plan → Depth → Way
