@@ -8,7 +8,7 @@ use lib.ListN.{replicate}
 use Rattle.whole.specs.Both.{Both}
 use Rattle.levels.specs.Sides.{Side, bits}
 use Rattle.av1.proofs.Sides.{by-side}
-use Rattle.av1.specs.Network.{Step, turn, mix, steps}
+use Rattle.av1.specs.Network.{Step, B, mix, steps}
 use Rattle.av1.specs.Bounds.{Small, growth, fitting}
 use Rattle.av1.proofs.Bounds.{two-told, able-now}
 use Rattle.spec_engine.specs.Growth.{Workable, fits}
@@ -17,8 +17,8 @@ use Rattle.spec_engine.specs.Lines.{Able}
 pub exchanged : {a b : ℕ} {t : List ℤ} → Workable t b a → Workable t a b
 exchanged o = record { a-in = o .b-in; b-in = o .a-in; x-small = o .y-small; y-small = o .x-small }
 
-pub able-turn : {ss : List Step} {t : List ℤ} (a b angle : ℕ) (flip : Bool) → Able (turn a b angle flip ∷ ss) t → Workable t a b
-able-turn a b angle flip w = two-told (w .inside) a b 33554432 (able-now w)
+pub able-turn : {ss : List Step} {t : List ℤ} {a b : ℕ} {p q : ℤ} {flip : Bool} → Able (B a b p q flip ∷ ss) t → Workable t a b
+able-turn {a = a} {b = b} w = two-told (w .inside) a b 33554432 (able-now w)
 
 pub able-mix : {ss : List Step} {t : List ℤ} (a b : ℕ) (flip : Bool) → Able (mix a b flip ∷ ss) t → Workable t a b
 able-mix a b false w = two-told (w .inside) a b 33554432 (able-now w)

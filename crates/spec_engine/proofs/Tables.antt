@@ -1,5 +1,5 @@
 -- The loops over the steps of a line, and over the lines: what is left is still to be run.
-use mathlib.Core.Path.{_≡_, refl, sym, ap, _∙_, subst, subst⁻¹}
+use mathlib.Core.Path.{_≡_, refl, ap, _∙_}
 use mathlib.Core.List.{List, [], _∷_, _++_}
 use Prim.Native.Nat.{ℕ, suc, _+_, _≤_, _<_}
 use native.Mathlib.Omega.{arith}
@@ -34,18 +34,16 @@ module _ {k : ℕ} {g : ℕ → List Step} where
           ap join (drop-cons (tab k g) i [] (omega (arith, tab-length k g)) ∙ (λ j. tab-at k g [] i more j ∷ drop (one j) (tab k g)))
 
       left : Able (g i ++ rest) t
-      left = subst (λ (ss : List Step). Able ss t) parted (come .able)
+      left = rw parted at (come .able)
 
       pub able-here : Able (g i) t
       able-here = able-first (g i) rest left
 
       pub further : {u : List ℤ} → u ≡ run exact (g i) t → Come k g t₀ u (i + 1)
       further e = record {
-        able = subst⁻¹ (Able rest) e (able-after grows (g i) rest left);
-        same = ap (run exact rest) e ∙ sym (run-append exact (g i) rest t) ∙ ap (λ (ss : List Step). run exact ss t) (sym parted) ∙ come .same;
+        able = rw e (able-after grows (g i) rest left);
+        same = rw (e, ← run-append exact (g i) rest t) (rw parted at (come .same));
       }
 
     pub ended : k ≤ i → t ≡ run exact (each k g) t₀
-    ended h =
-        let none : drop i (tab k g) ≡ [] = drop-of-length-le (tab k g) {i = i} (omega (arith, tab-length k g)) in
-        ap (λ (gs : List (List Step)). run exact (join gs) t) (sym none) ∙ come .same
+    ended h = rw (drop-of-length-le (tab k g) {i = i} (omega (arith, tab-length k g))) at (come .same)

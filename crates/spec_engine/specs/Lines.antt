@@ -19,7 +19,7 @@ Able = AbleBy growth fits false
 abbrev pub each : ℕ → (ℕ → List Step) → List Step
 each k g = join (tab k g)
 
--- ---- a line of H
+-- ---- a line of H: mirrors, of which every second one flips
 
 abbrev pub mirror : ℕ → ℕ → Bool → List Step
 mirror base size flip = each (size / 2) (λ j. mix (base + j) (base + size - 1 - j) flip ∷ [])
@@ -34,15 +34,15 @@ module _ (rows : List (List ℕ)) where
   rotation i = let r = getD rows i [] in turn (getD r 0 0) (getD r 1 0) (getD r 2 0) (eqb (getD r 3 0) 1)
 
   abbrev pub turns : ℕ → ℕ → List Step
-  turns from count = each count (λ i. rotation (from + i) ∷ [])
+  turns base count = each count (λ i. rotation (base + i) ∷ [])
 
 -- no angle is above 128
 abbrev pub Angled : List (List ℕ) → Type 0
 Angled rows = any (length rows) (λ i. ltb 128 (getD (getD rows i []) 2 0)) ≡ false
 
-pub record Turns (rows : List (List ℕ)) (from count : ℕ) (t : List ℤ) : Type 0 where
-  pub able : Able (turns rows from count) t
-  pub there : from + count ≤ length rows
+pub record Turns (rows : List (List ℕ)) (base count : ℕ) (t : List ℤ) : Type 0 where
+  pub able : Able (turns rows base count) t
+  pub there : base + count ≤ length rows
   pub angles : Angled rows
 
 -- ---- the lines, whose rows are least n, base, size, count
@@ -57,16 +57,13 @@ module _ (rows : List (List ℕ)) (n : ℕ) where
   abbrev pub laid : List (List ℕ) → List Step
   laid ls = each (length ls) (λ i. row (getD ls i []))
 
--- a line reaches beyond the rows, or its mirrors beyond T
-abbrev pub beyond : List (List ℕ) → ℕ → ℕ → ℕ → Bool
-beyond rows base size count = cond (eqb size 0) (ltb (length rows) (base + count)) (ltb 32 (base + size * count))
-
+-- the rows are there; a line of H has none, and the test holds of it as well
 pub record Line (rows : List (List ℕ)) (n least base size count : ℕ) (t : List ℤ) : Type 0 where
   pub able : Able (line rows n least base size count) t
-  pub there : beyond rows base size count ≡ false
+  pub there : base + count ≤ length rows
   pub angles : Angled rows
 
 pub record Walks (rows : List (List ℕ)) (n : ℕ) (ls : List (List ℕ)) (t : List ℤ) : Type 0 where
   pub able : Able (laid rows n ls) t
-  pub there : any (length ls) (λ i. let l = getD ls i [] in beyond rows (getD l 1 0) (getD l 2 0) (getD l 3 0)) ≡ false
+  pub there : any (length ls) (λ i. let l = getD ls i [] in ltb (length rows) (getD l 1 0 + getD l 3 0)) ≡ false
   pub angles : Angled rows

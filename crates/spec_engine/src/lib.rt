@@ -16,7 +16,7 @@
 // Left out: the ADSTs (7.13.2.4 to 7.13.2.9), and in 7.13.2.3 the lines that are for n equal to 6 alone, 64 points. So the lines are numbered anew
 // here, 1 to 20, in the specification's order.
 ghost use mathlib.Core.Path.{_≡_};
-ghost use Prim.Native.Nat.{_+_, _*_, _/_, _^_, _≤_};
+ghost use Prim.Native.Nat.{_*_, _/_, _^_, _≤_};
 ghost use lib.IntN.{pos, natAbs};
 ghost use lib.ListN.{getD, length, replicate};
 ghost use Rattle.whole.specs.Numbers as Numbers;
@@ -190,13 +190,13 @@ fn permute(t: &mut [i32; 32], n: usize)
 
 // ---- 7.13.2.3: inverse DCT process
 
-// A line of B: the rotations of `count` rows a, b, angle, flip, from row `from` on.
-fn turns(t: &mut [i32; 32], rows: &[[u8; 4]], from: usize, count: usize)
-    requires { ⌜ Lines.Turns (now rows) from count (now t) ⌝ }
-    ensures { λ _. ⌜ now (t .exit) ≡ Network.run exact (Lines.turns (now (rows .entry)) from count) (now (t .entry)) ⌝ }
+// A line of B: the rotations of `count` rows a, b, angle, flip, from row `base` on.
+fn turns(t: &mut [i32; 32], rows: &[[u8; 4]], base: u8, count: u8)
+    requires { ⌜ Lines.Turns (now rows) base count (now t) ⌝ }
+    ensures { λ _. ⌜ now (t .exit) ≡ Network.run exact (Lines.turns (now (rows .entry)) base count) (now (t .entry)) ⌝ }
 {
-    for i in 0..count {
-        let row = rows[from + i];
+    for i in 0..count as usize {
+        let row = rows[base as usize + i];
         let a = row[0] as usize;
         let b = row[1] as usize;
         let angle = row[2] as usize;
@@ -204,10 +204,9 @@ fn turns(t: &mut [i32; 32], rows: &[[u8; 4]], from: usize, count: usize)
     }
 }
 
-// A mirror, H of the first and the last of `size` elements, of the second and the last but one, and so on:
-// H( base + j, base + size - 1 - j, flip ) for j = 0..size/2-1.
+// A mirror: H of the first and the last of `size` elements, of the second and the last but one, and so on.
 fn mirror(t: &mut [i32; 32], base: usize, size: usize, flip: bool)
-    requires { ⌜ Lines.Able (Lines.mirror base size flip) (now t) × (base + size ≤ 32) ⌝ }
+    requires { ⌜ Lines.Able (Lines.mirror base size flip) (now t) ⌝ }
     ensures { λ _. ⌜ now (t .exit) ≡ Network.run exact (Lines.mirror base size flip) (now (t .entry)) ⌝ }
 {
     for j in 0..size / 2 {
@@ -215,27 +214,28 @@ fn mirror(t: &mut [i32; 32], base: usize, size: usize, flip: bool)
     }
 }
 
-// A line of H: `count` mirrors side by side, of which every second one flips. So each line of H is written
+// A line of H: `count` mirrors side by side, of which every second one flips. Each line of H is of this form:
 // H( base + size * i + j, base + size * i + size - 1 - j, i & 1 ) for i = 0..count-1, j = 0..size/2-1.
-fn mirrors(t: &mut [i32; 32], base: usize, size: usize, count: usize)
-    requires { ⌜ Lines.Able (Lines.mirrors base size count) (now t) × (base + size * count ≤ 32) ⌝ }
+fn mirrors(t: &mut [i32; 32], base: u8, size: u8, count: u8)
+    requires { ⌜ Lines.Able (Lines.mirrors base size count) (now t) ⌝ }
     ensures { λ _. ⌜ now (t .exit) ≡ Network.run exact (Lines.mirrors base size count) (now (t .entry)) ⌝ }
 {
-    for i in 0..count {
-        mirror(&mut *t, base + size * i, size, i % 2 == 1);
+    let size = size as usize;
+    for i in 0..count as usize {
+        mirror(&mut *t, base as usize + size * i, size, i % 2 == 1);
     }
 }
 
-// A line, if it is for this n: a line of B, which size 0 marks, is `count` rows from row `base` on.
+// A line, if it is for this n. Size 0 marks a line of B.
 fn line(t: &mut [i32; 32], rows: &[[u8; 4]], n: usize, least: u8, base: u8, size: u8, count: u8)
     requires { ⌜ Lines.Line (now rows) n least base size count (now t) ⌝ }
     ensures { λ _. ⌜ now (t .exit) ≡ Network.run exact (Lines.line (now (rows .entry)) n least base size count) (now (t .entry)) ⌝ }
 {
     if least as usize <= n {
         if size == 0 {
-            turns(t, rows, base as usize, count as usize);
+            turns(t, rows, base, count);
         } else {
-            mirrors(t, base as usize, size as usize, count as usize);
+            mirrors(t, base, size, count);
         }
     }
 }

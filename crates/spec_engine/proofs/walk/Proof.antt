@@ -3,6 +3,7 @@ use mathlib.Core.List.{[]}
 use Prim.Native.Nat.{_-_}
 use native.Mathlib.Omega.{arith}
 use borrow.Author.Needs.{needs}
+use borrow.Author.Tests.{ltb-false}
 use lib.ListN.{length, getD}
 use Rattle.whole.proofs.Counts.{none-of-any}
 use Rattle.spec_engine.specs.Lines.{row}
@@ -23,7 +24,7 @@ walk-spec =
     (λ c κs.
     let i = c .before .before in let s = i .before .before in record {
       able = able-here (i .before .loop .inv) (i .loop-test .taken);
-      there = none-of-any _ _ (s .pre .there) (i .before .loop .i) (i .loop-test .taken);
+      there = ltb-false _ _ (none-of-any _ _ (s .pre .there) (i .before .loop .i) (i .loop-test .taken));
       angles = s .pre .angles;
     })
     (λ c. omega arith) (λ c. omega arith)
