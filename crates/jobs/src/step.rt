@@ -23,10 +23,10 @@ use mend::salvage;
 use numbers::Number;
 use numbers::read_number;
 use numbers::write_number;
+use report::put_report;
 use tally::add;
 use tally::are_sane;
 use tally::keep;
-use report::put_report;
 use text::refused_line;
 
 // What a program does with a block file.

@@ -66,7 +66,6 @@ a ⊕ b = record {
 }
 
 infixl 6 _⊕_
-
 -- "rising by w, then h, then type": the combinations in this order are the 272 cells of a table, 17 types for each of 4 heights for each of 4 widths
 abbrev pub cell-w : ℕ → ℕ
 cell-w k = 4 * 2 ^ (k / 68)
