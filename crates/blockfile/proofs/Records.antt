@@ -13,7 +13,8 @@ use Rattle.levels.specs.Plans.{shift-of}
 use Rattle.levels.proofs.Sizes.{Sided, shift-sided, side-bounds}
 use Rattle.numbers.specs.Zigzag.{zig, zag}
 use Rattle.numbers.specs.Form.{Each}
-use Rattle.blockfile.specs.Record.{sized, coefficient, pixel, size, Block, area, to-head, from-head, to-block, from-block, announces, fifth, head-of, count, form, Plain}
+use Rattle.blockfile.specs.Record.{sized, coefficient, pixel, size, Block, area, to-head, from-head, to-block, from-block, announces, fifth}
+use Rattle.blockfile.specs.Record.{head-of, count, form, Plain}
 use Rattle.blockfile.specs.declared.record.Head.{Head}
 use Rattle.numbers.proofs.Numbers.{number-some, number-short}
 use Rattle.numbers.proofs.Zigzags.{zag-zig, zig-zag, zig-fits, fits-zig}

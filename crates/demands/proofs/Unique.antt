@@ -9,7 +9,8 @@ use Rattle.whole.specs.Answers as Answers
 use Rattle.itx.specs.declared.Answer.{Answer}
 use Rattle.itx.specs.declared.Answer.the-variants.{Done, Refused}
 use Rattle.checks.specs.declared.Refusal.{Refusal}
-use Rattle.checks.specs.declared.Refusal.the-variants.{NoSize, NoType, NoDepth, NegativeEob, NoSuchRows, FewCoefficients, NotVisible, BadStride, RowOutside, OutOfRange, Stray, AboveMaximum}
+use Rattle.checks.specs.declared.Refusal.the-variants.{NoSize, NoType, NoDepth, NegativeEob, NoSuchRows, FewCoefficients, NotVisible, BadStride}
+use Rattle.checks.specs.declared.Refusal.the-variants.{RowOutside, OutOfRange, Stray, AboveMaximum}
 use Rattle.checks.specs.Refusals.{number, place}
 use Rattle.itx.specs.Answers.{answer-of}
 use Rattle.itx.specs.Calls.{Outcome, Meets}

@@ -22,7 +22,8 @@ use Rattle.strided.proofs.Widths.{same-spot, same-stride}
 use Rattle.scaling.specs.Scaling.{shortcut}
 use Rattle.residual.specs.Blocks.{way, residual, marked}
 use Rattle.pixels.specs.Adds.{add-rows}
-use Rattle.checks.specs.Table.{Block, Call, eob-line, rows-line, count-line, lengths-lines, range-line, stray-line, pixel-line, table, with-depth, verdict, short, live-rows}
+use Rattle.checks.specs.Table.{Block, Call, eob-line, rows-line, count-line, lengths-lines, range-line, stray-line, pixel-line, table, with-depth}
+use Rattle.checks.specs.Table.{verdict, short, live-rows}
 use Rattle.itx.specs.Calls.{outcome-of, outcome, Outcome}
 use Rattle.demands.specs.Widths.{narrow-block, wide-block, narrow-lines, one-of, narrow-numbers}
 use Rattle.checks.proofs.Narrow.{left-out, range-none, above-none}

@@ -24,7 +24,8 @@ use Rattle.strided.specs.Planes.{bad-view, bad-stride, row-outside, lies}
 use Rattle.strided.proofs.Rows.{rows-in}
 use Rattle.above.specs.Above.{first-above}
 use Rattle.whole.specs.Answers.{Answer}
-use Rattle.checks.specs.Table.{Block, Call, plain, live, bad-eob, bad-rows, out-of-range, stray, table, checked, verdict, spec-verdict, with-adst, short, live-rows, with-depth}
+use Rattle.checks.specs.Table.{Block, Call, plain, live, bad-eob, bad-rows, out-of-range, stray, table, checked, verdict, spec-verdict, with-adst}
+use Rattle.checks.specs.Table.{short, live-rows, with-depth}
 use Rattle.itx.specs.Calls.{outcome-of, by-shortcut, by-passes, outcome, Outcome, Meets}
 use Rattle.itx.specs.Av1.{av1-way}
 use Rattle.itx.specs.Spec.{spec-outcome}
