@@ -11,7 +11,7 @@ use Rattle.whole.proofs.Counts.{tab-ext, replicate-tab}
 use Rattle.bitdepth.specs.declared.Depth.{Depth}
 use Rattle.levels.specs.declared.Plan.{Plan}
 use Rattle.levels.proofs.Sizes.{plan-of}
-use Rattle.residual.specs.Blocks.{way}
+use Rattle.steps.specs.Blocks.{way}
 use Rattle.checks.specs.Table.{Block, live, verdict}
 use Rattle.itx.specs.Calls.{outcome-of, outcome}
 use Rattle.ways.proofs.Painting.{zeros-at}

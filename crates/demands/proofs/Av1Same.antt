@@ -31,7 +31,7 @@ use Rattle.pixels.proofs.Pixels.{rows-ext}
 use Rattle.demands.proofs.Demand3.{demand-3}
 use Rattle.checks.proofs.Verdicts.{accepted-by}
 use Rattle.itx.proofs.Engines.{enter-av1, between-av1}
-use Rattle.residual.specs.Blocks.{entered, row, middle, column, residual, marked, way}
+use Rattle.steps.specs.Blocks.{entered, row, middle, column, residual, marked, way}
 
 -- ---- the block, with r live rows
 

@@ -16,7 +16,7 @@ use Rattle.levels.specs.declared.Plan.{Plan}
 use Rattle.levels.specs.Plans.{kinds-of, plan}
 use Rattle.levels.proofs.Sizes.{plan-of, plan-sided, side-bounds}
 use Rattle.coefs.specs.Coefs.{Covers}
-use Rattle.residual.specs.Blocks.{way}
+use Rattle.steps.specs.Blocks.{way}
 use Rattle.checks.specs.Table.{Block, Call, plain, live, bad-rows, table, verdict}
 use Rattle.itx.specs.Calls.{outcome-of, outcome}
 use Rattle.checks.specs.Accepted.{Accepted}

@@ -21,7 +21,7 @@ use Rattle.levels.specs.declared.Plan.{Plan}
 use Rattle.levels.proofs.Sizes.{plan-of}
 use Rattle.strided.specs.Planes.{lies, spot-outside, place}
 use Rattle.scaling.specs.Scaling.{shortcut}
-use Rattle.residual.specs.Blocks.{way}
+use Rattle.steps.specs.Blocks.{way}
 use Rattle.pixels.specs.Adds.{add-pixel}
 use Rattle.above.proofs.Above.{above-alike}
 use Rattle.checks.specs.Table.{Block, Call, table, verdict, short, live-rows}

@@ -24,7 +24,7 @@ use Rattle.strided.specs.Planes.{lies, begins, place}
 use Rattle.strided.specs.declared.View.{View}
 use Rattle.strided.proofs.Rows.{row-fits, rows-apart}
 use Rattle.scaling.specs.Scaling.{shortcut}
-use Rattle.residual.specs.Blocks.{residual, marked, way}
+use Rattle.steps.specs.Blocks.{residual, marked, way}
 use Rattle.pixels.specs.Adds.{add-pixel, add-row, add-rows}
 use Rattle.checks.specs.Table.{Block, Call, verdict, short, live-rows}
 use Rattle.itx.specs.Calls.{Outcome, painted, by-shortcut, by-passes, outcome-of, outcome}

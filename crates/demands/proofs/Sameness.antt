@@ -13,8 +13,8 @@ use Rattle.whole.specs.Answers.{refusal}
 use Rattle.bitdepth.specs.declared.Depth.{Depth}
 use Rattle.levels.specs.declared.Plan.{Plan}
 use Rattle.levels.proofs.Sizes.{Sided}
-use Rattle.residual.specs.declared.Engine.the-variants.{First}
-use Rattle.residual.specs.Blocks.{way}
+use Rattle.steps.specs.declared.Engine.the-variants.{First}
+use Rattle.steps.specs.Blocks.{way}
 use Rattle.coefs.specs.Coefs.{in-dead-row, Covers}
 use Rattle.checks.specs.Table.{Block, Call, plain, live, bad-eob, bad-rows, stray, rows-line, stray-line, with-depth, table, verdict, short}
 use Rattle.itx.specs.Calls.{Outcome, by-shortcut, by-passes, outcome-of, outcome}

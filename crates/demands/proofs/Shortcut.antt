@@ -30,7 +30,7 @@ use Rattle.strided.specs.declared.View.{View}
 use Rattle.strided.specs.Planes.{lies, begins, place}
 use Rattle.strided.proofs.Rows.{columns-in, rows-in, row-fits, rows-apart}
 use Rattle.scaling.specs.Scaling.{prescale, shortcut}
-use Rattle.residual.specs.Blocks.{Way, way, entered, row, middle, column, residual, marked}
+use Rattle.steps.specs.Blocks.{Way, way, entered, row, middle, column, residual, marked}
 use Rattle.pixels.specs.Adds.{add-pixel, add-rows}
 use Rattle.checks.specs.Table.{Block, plain}
 use Rattle.itx.specs.Calls.{by-shortcut, by-passes, outcome}

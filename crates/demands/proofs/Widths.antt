@@ -20,7 +20,7 @@ use Rattle.strided.specs.declared.Width.the-variants.{Narrow}
 use Rattle.strided.specs.Planes.{bad-view, spot, spot-outside, begins}
 use Rattle.strided.proofs.Widths.{same-spot, same-stride}
 use Rattle.scaling.specs.Scaling.{shortcut}
-use Rattle.residual.specs.Blocks.{way, residual, marked}
+use Rattle.steps.specs.Blocks.{way, residual, marked}
 use Rattle.pixels.specs.Adds.{add-rows}
 use Rattle.checks.specs.Table.{Block, Call, eob-line, rows-line, count-line, lengths-lines, range-line, stray-line, pixel-line, table, with-depth}
 use Rattle.checks.specs.Table.{verdict, short, live-rows}

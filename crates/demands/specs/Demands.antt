@@ -18,7 +18,7 @@ use Rattle.strided.specs.declared.Width.{Width}
 use Rattle.strided.specs.declared.Width.the-variants.{Wide, Narrow}
 use Rattle.strided.specs.Planes.{in-pixels, row-start, place}
 use Rattle.scaling.specs.Scaling.{shortcut}
-use Rattle.residual.specs.Blocks.{way, residual}
+use Rattle.steps.specs.Blocks.{way, residual}
 use Rattle.checks.specs.Table.{Block, Call, plain, live, short, live-rows}
 use Rattle.itx.specs.Calls.{Outcome, by-passes}
 

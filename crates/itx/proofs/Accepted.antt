@@ -30,10 +30,10 @@ use Rattle.levels.proofs.Types.{by-types}
 use Rattle.strided.specs.Planes.{lies, spot-outside}
 use Rattle.strided.specs.declared.Spot.{Spot}
 use Rattle.strided.proofs.Rows.{columns-in, rows-in}
-use Rattle.residual.specs.declared.Engine.{Engine}
+use Rattle.steps.specs.declared.Engine.{Engine}
 use Rattle.scaling.specs.Scaling.{shortcut}
-use Rattle.residual.specs.Blocks.{way-by, residual}
-use Rattle.residual.specs.Inner.{Sized}
+use Rattle.steps.specs.Blocks.{way-by, residual}
+use Rattle.steps.specs.Inner.{Sized}
 use Rattle.bitdepth.proofs.Ends.{row-reach, size}
 use Rattle.checks.specs.declared.Refusal.{Refusal}
 use Rattle.checks.specs.Table.{Block, Call, plain, live, verdict, short, live-rows}

@@ -19,10 +19,10 @@ use Rattle.itx.specs.Av1.{held, av1-way}
 use Rattle.checks.specs.Table.{Block, Call, checked, with-adst}
 use Rattle.itx.specs.Calls.{Outcome, outcome-of, outcome, Meets}
 use Rattle.scaling.specs.Scaling.{prescale}
-use Rattle.residual.specs.Blocks.{row, column, way, way-by}
+use Rattle.steps.specs.Blocks.{row, column, way, way-by}
 use Rattle.levels.specs.Manners.{if-wht, is-adst}
 use Rattle.levels.specs.Plans.{plan}
-use Rattle.residual.specs.declared.Engine.the-variants.{First, Spec}
+use Rattle.steps.specs.declared.Engine.the-variants.{First, Spec}
 use Rattle.itx.specs.Inner.{left, Allowed}
 use Rattle.checks.specs.Inner.{adst-planned}
 use Rattle.itx.specs.Spec.{spec-outcome}

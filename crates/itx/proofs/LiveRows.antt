@@ -24,10 +24,10 @@ use Rattle.bitdepth.specs.Depths.{row-range, column-range, maximum}
 use Rattle.levels.specs.declared.Plan.{Plan}
 use Rattle.levels.proofs.Sizes.{Sided}
 use Rattle.coefs.specs.Coefs.{Covers}
-use Rattle.residual.specs.declared.Engine.{Engine}
-use Rattle.residual.specs.declared.Engine.the-variants.{First, Spec}
+use Rattle.steps.specs.declared.Engine.{Engine}
+use Rattle.steps.specs.declared.Engine.the-variants.{First, Spec}
 use Rattle.scaling.specs.Scaling.{prescale}
-use Rattle.residual.specs.Blocks.{Way, entered, row, middle, column, residual, marked, passed-by, way-by}
+use Rattle.steps.specs.Blocks.{Way, entered, row, middle, column, residual, marked, passed-by, way-by}
 use Rattle.levels.specs.Manners.{if-wht}
 use lib.ListN.{replicate, drop}
 use Rattle.whole.specs.Answers.{acceptance}

@@ -17,7 +17,7 @@ use Rattle.levels.specs.declared.Plan.{Plan}
 use Rattle.levels.specs.Plans.{shift-of, kinds-of, with-kinds, with-shift, plan}
 use Rattle.levels.proofs.Types.{by-types}
 use Rattle.strided.specs.Planes.{lies}
-use Rattle.residual.specs.Blocks.{Way, way}
+use Rattle.steps.specs.Blocks.{Way, way}
 use Rattle.checks.specs.Table.{Block, Call, plain, lengths-lines, range-line, stray-line, pixel-line, with-depth, table, verdict, short, live-rows}
 use Rattle.itx.specs.Calls.{by-shortcut, by-passes, outcome-of, outcome}
 use Rattle.whole.proofs.Clips.{by-test}

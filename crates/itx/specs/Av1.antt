@@ -9,7 +9,7 @@ use Rattle.passes.specs.Passes.{av1-pass}
 use Rattle.bitdepth.specs.declared.Depth.{Depth}
 use Rattle.bitdepth.specs.Depths.{bit-depth}
 use Rattle.levels.specs.declared.Plan.{Plan}
-use Rattle.residual.specs.Blocks.{Way}
+use Rattle.steps.specs.Blocks.{Way}
 use Rattle.levels.specs.Manners.{if-wht}
 use Rattle.checks.specs.Table.{Block}
 use Rattle.itx.specs.Calls.{Outcome, by-passes}

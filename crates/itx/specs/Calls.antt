@@ -15,7 +15,7 @@ use Rattle.levels.specs.declared.Plan.{Plan}
 use Rattle.pixels.specs.Adds.{add-rows}
 use Rattle.strided.specs.Planes.{Plane, lies, begins}
 use Rattle.scaling.specs.Scaling.{shortcut}
-use Rattle.residual.specs.Blocks.{Way, residual, marked, way}
+use Rattle.steps.specs.Blocks.{Way, residual, marked, way}
 
 pub record Outcome : Type 0 where
   pub answer : Answer

@@ -2,8 +2,8 @@
 use mathlib.Core.Path.{_≡_}
 use Rattle.whole.specs.Checks.{Check, accept}
 use Rattle.levels.specs.declared.Plan.{Plan}
-use Rattle.residual.specs.declared.Engine.{Engine}
-use Rattle.residual.specs.Blocks.{way-by}
+use Rattle.steps.specs.declared.Engine.{Engine}
+use Rattle.steps.specs.Blocks.{way-by}
 use Rattle.residual.specs.Inner.{Served}
 use Rattle.checks.specs.Table.{Block, Call, verdict}
 use Rattle.itx.specs.Calls.{Outcome, outcome-of}

@@ -11,8 +11,8 @@ use Rattle.whole.specs.Lists.{at}
 use Rattle.whole.proofs.Counts.{tab-at, tab-ext}
 use Rattle.whole.proofs.Sizes.{abs-mul}
 use Rattle.bitdepth.specs.declared.Depth.{Depth}
-use Rattle.residual.specs.Blocks.{way, entered, middle, residual}
-use Rattle.residual.specs.declared.Engine.the-variants.{First}
+use Rattle.steps.specs.Blocks.{way, entered, middle, residual}
+use Rattle.steps.specs.declared.Engine.the-variants.{First}
 use Rattle.residual.specs.Inner.{wht-plan, ResolvedIn}
 use Rattle.lossless.specs.Writes.{unwht, down, along, coefficient, coefficients}
 use Rattle.lossless.specs.Inner.{Sixteen, other, crossing, crossed}

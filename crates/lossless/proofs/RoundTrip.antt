@@ -23,7 +23,7 @@ use Rattle.strided.specs.Planes.{Plane, Spotted, lies, place}
 use Rattle.above.proofs.Above.{no-above}
 use Rattle.strided.proofs.Rows.{columns-in, rows-in}
 use Rattle.scaling.specs.Scaling.{shortcut}
-use Rattle.residual.specs.Blocks.{way, row, column, residual}
+use Rattle.steps.specs.Blocks.{way, row, column, residual}
 use Rattle.residual.specs.Inner.{wht-plan}
 use Rattle.pixels.specs.Adds.{add-pixel}
 use Rattle.passes.specs.Passes.{pass}

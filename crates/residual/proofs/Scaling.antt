@@ -13,9 +13,9 @@ use Rattle.levels.specs.declared.Kind.the-variants.{Identity}
 use Rattle.passes.specs.Passes.{identity, pass}
 use Rattle.passes.proofs.PassLaws.{identity-at}
 use Rattle.levels.specs.declared.Plan.{Plan}
-use Rattle.residual.specs.Inner.{Filled, loaded, Holds, RowsAre, ColumnsAre}
-use Rattle.residual.proofs.Places.{by-row}
-use Rattle.residual.proofs.Steps.{rows-are}
+use Rattle.steps.specs.Inner.{Filled, loaded, Holds, RowsAre, ColumnsAre}
+use Rattle.steps.proofs.Places.{by-row}
+use Rattle.steps.proofs.Steps.{rows-are}
 
 -- one element of a line
 line-at : (n k m : ℕ) (f : ℕ → ℤ) (i : ℕ) → i < k → at (pass Identity (side n) m (tab k f) .values) i ≡ identity (side n) (f i)

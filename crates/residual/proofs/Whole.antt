@@ -29,12 +29,13 @@ use Rattle.bitdepth.specs.declared.Depth.the-variants.{Eight, Ten, Twelve}
 use Rattle.bitdepth.specs.Depths.{row-range, column-range}
 use Rattle.levels.specs.declared.Plan.{Plan}
 use Rattle.scaling.specs.Scaling.{rounding}
-use Rattle.residual.specs.declared.Engine.{Engine}
-use Rattle.residual.specs.declared.Engine.the-variants.{First, Spec}
-use Rattle.residual.specs.Blocks.{passed-by, serves, way-by, middle, column, marked}
-use Rattle.residual.specs.Inner.{Filled, loaded, row-by, RowsAreIn, HoldsIn, column-by, ColumnsAreIn, ResolvesIn, Served, ResolvedIn}
+use Rattle.steps.specs.declared.Engine.{Engine}
+use Rattle.steps.specs.declared.Engine.the-variants.{First, Spec}
+use Rattle.steps.specs.Blocks.{passed-by, serves, way-by, middle, column, marked}
+use Rattle.steps.specs.Inner.{Filled, loaded, row-by, RowsAreIn, HoldsIn, column-by, ColumnsAreIn, ResolvesIn}
+use Rattle.residual.specs.Inner.{Served, ResolvedIn}
 use Rattle.bitdepth.proofs.Ends.{row-reach}
-use Rattle.residual.proofs.Places.{by-row, loaded-small}
+use Rattle.steps.proofs.Places.{by-row, loaded-small}
 
 -- ---- sizes
 

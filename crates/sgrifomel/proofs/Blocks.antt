@@ -30,7 +30,7 @@ use Rattle.itx.specs.Calls.{outcome-of, by-shortcut, by-passes, outcome, Outcom
 use Rattle.itx.specs.Av1.{av1-way}
 use Rattle.itx.specs.Spec.{spec-outcome}
 use Rattle.checks.proofs.Verdicts.{by-plan, planned-at}
-use Rattle.residual.specs.Blocks.{Way, way}
+use Rattle.steps.specs.Blocks.{Way, way}
 use Rattle.sgrifomel.specs.Words.{packed, view, PacksBlock}
 use Rattle.bitdepth.proofs.Cases.{by-depth}
 use Rattle.whole.proofs.Clips.{by-test}

@@ -10,7 +10,7 @@ use lib.IntN.{ℤ, pos}
 use Rattle.whole.specs.Lists.{at}
 use Rattle.whole.proofs.Counts.{tab-ext, any-ext}
 use Rattle.passes.specs.Passes.{Passed}
-use Rattle.residual.specs.Blocks.{Way, entered, row, middle, column, residual, marked}
+use Rattle.steps.specs.Blocks.{Way, entered, row, middle, column, residual, marked}
 
 module _ (𝓦 : Way) (c c′ : List ℤ) (alike : (i : ℕ) → i < 𝓦 .w * 𝓦 .h → at c i ≡ at c′ i) where
   row-alike : (y : ℕ) → y < 𝓦 .h → row 𝓦 c y ≡ row 𝓦 c′ y

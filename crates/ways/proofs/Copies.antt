@@ -10,9 +10,10 @@ use Rattle.whole.specs.Lists.{at}
 use Rattle.passes.specs.Passes.{Passed}
 use Rattle.bitdepth.specs.declared.Depth.{Depth}
 use Rattle.levels.specs.declared.Plan.{Plan}
-use Rattle.residual.specs.declared.Engine.{Engine}
-use Rattle.residual.specs.Blocks.{way-by}
-use Rattle.residual.specs.Inner.{Coefs, ResolvedIn, wht-plan}
+use Rattle.steps.specs.declared.Engine.{Engine}
+use Rattle.steps.specs.Blocks.{way-by}
+use Rattle.steps.specs.Inner.{Coefs}
+use Rattle.residual.specs.Inner.{ResolvedIn, wht-plan}
 use Rattle.checks.specs.Table.{Call, plain, live}
 use Rattle.ways.specs.Inner.{Suits}
 use Rattle.checks.specs.Inner.{Widened}

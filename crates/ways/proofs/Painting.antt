@@ -21,11 +21,12 @@ use Rattle.strided.specs.declared.Spot.{Spot}
 use Rattle.pixels.specs.Adds.{add-pixel, add-rows}
 use Rattle.pixels.specs.Inner.{left, Adding, Shifting}
 use Rattle.pixels.proofs.Pixels.{rows-ext}
-use Rattle.residual.specs.declared.Engine.{Engine}
+use Rattle.steps.specs.declared.Engine.{Engine}
 use Rattle.scaling.specs.Scaling.{shortcut}
-use Rattle.residual.specs.Blocks.{way-by, residual}
-use Rattle.residual.specs.Inner.{Sized, ResolvedIn, wht-plan}
-use Rattle.residual.proofs.Places.{by-row}
+use Rattle.steps.specs.Blocks.{way-by, residual}
+use Rattle.steps.specs.Inner.{Sized}
+use Rattle.residual.specs.Inner.{ResolvedIn, wht-plan}
+use Rattle.steps.proofs.Places.{by-row}
 use Rattle.ways.specs.Inner.{Ready, Passed, Shortened}
 use native.Mathlib.Nat.{mul-le-mul}
 

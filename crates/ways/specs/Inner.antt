@@ -13,10 +13,10 @@ use Rattle.strided.specs.Planes.{begins, spot-outside}
 use Rattle.strided.specs.declared.Spot.{Spot}
 use Rattle.pixels.specs.Adds.{add-rows}
 use Rattle.coefs.specs.Coefs.{Covers}
-use Rattle.residual.specs.declared.Engine.{Engine}
+use Rattle.steps.specs.declared.Engine.{Engine}
 use Rattle.scaling.specs.Scaling.{shortcut}
-use Rattle.residual.specs.Blocks.{way-by, residual, marked}
-use Rattle.residual.specs.Inner.{Sized, Coefs}
+use Rattle.steps.specs.Blocks.{way-by, residual, marked}
+use Rattle.steps.specs.Inner.{Sized, Coefs}
 use Rattle.checks.specs.Table.{Call, plain, live}
 
 -- what the ways ask

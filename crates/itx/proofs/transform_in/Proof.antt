@@ -14,7 +14,7 @@ use Rattle.levels.specs.declared.Plan.{Plan}
 use Rattle.levels.specs.Plans.{plan}
 use Rattle.strided.specs.declared.Width.the-variants.{Narrow}
 use Rattle.strided.specs.Planes.{spot, lent-8}
-use Rattle.residual.specs.declared.Engine.the-variants.{First}
+use Rattle.steps.specs.declared.Engine.the-variants.{First}
 use Rattle.checks.specs.declared.Refusal.{Refusal}
 use Rattle.checks.specs.declared.Verdict.{Verdict}
 use Rattle.checks.specs.declared.Verdict.the-variants.{Stop}

@@ -11,7 +11,7 @@ use lib.ListN.{drop}
 use borrow.Author.Needs.{needs}
 use Rattle.whole.specs.Lists.{at}
 use Rattle.bitdepth.specs.declared.Depth.the-variants.{Eight}
-use Rattle.residual.specs.declared.Engine.the-variants.{First}
+use Rattle.steps.specs.declared.Engine.the-variants.{First}
 use Rattle.residual.specs.Inner.{wht-plan, ResolvedIn}
 use Rattle.itx.proofs.Accepted.{sized}
 use Rattle.ways.proofs.Painting.{zeros-at}

@@ -6,7 +6,7 @@ use mir.ValLaws.{toZ-ofZ}
 use borrow.Author.Needs.{needs}
 use Rattle.whole.proofs.Held.{to2}
 use Rattle.levels.specs.declared.Kind.the-variants.{Dct}
-use Rattle.residual.specs.Inner.{ColumnsPass}
+use Rattle.steps.specs.Inner.{ColumnsPass}
 use Rattle.residual.proofs.Scaling.{scaled-columns}
 use Rattle.residual.proofs.columns.Statement.{statement}
 use Rattle.residual.proofs.columns.Tie as tie

@@ -5,9 +5,9 @@ use native.Mathlib.Nat.{le-refl}
 use native.Mathlib.Omega.{arith}
 use lib.Dec.{lit≤}
 use Rattle.levels.specs.declared.Kind.the-variants.{Wht}
-use Rattle.residual.specs.declared.Engine.the-variants.{First}
-use Rattle.residual.specs.Inner.{Columned}
-use Rattle.residual.proofs.Steps.{columned-none, column-passable, column-more}
+use Rattle.steps.specs.declared.Engine.the-variants.{First}
+use Rattle.steps.specs.Inner.{Columned}
+use Rattle.steps.proofs.Steps.{columned-none, column-passable, column-more}
 use Rattle.residual.proofs.columns_of_wht.Statement.{statement}
 use Rattle.residual.proofs.columns_of_wht.Tie as tie
 

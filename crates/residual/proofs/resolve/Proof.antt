@@ -10,10 +10,10 @@ use Rattle.whole.specs.Lists.{at}
 use Rattle.passes.specs.Inner.{Limited}
 use Rattle.bitdepth.specs.Depths.{row-range, column-range}
 use Rattle.scaling.specs.Scaling.{rounding}
-use Rattle.residual.specs.Inner.{Filled, RowsBy}
+use Rattle.steps.specs.Inner.{Filled, RowsBy}
 use Rattle.bitdepth.proofs.Ends.{row-reach, column-reach, lo-is, hi-is, as-held, m-is}
 use Rattle.residual.proofs.Ends.{limited}
-use Rattle.residual.proofs.Places.{area, w-small, rows-fit}
+use Rattle.steps.proofs.Places.{area, w-small, rows-fit}
 use Rattle.residual.proofs.Whole.{rowed-left, after-rows, for-columns, resolved}
 use Rattle.residual.proofs.resolve.Statement.{statement}
 use Rattle.residual.proofs.resolve.Tie as tie

@@ -14,8 +14,9 @@ use Rattle.levels.specs.declared.Kind.the-variants.{Wht}
 use Rattle.bitdepth.specs.declared.Depth.{Depth}
 use Rattle.bitdepth.specs.declared.Depth.the-variants.{Eight}
 use Rattle.bitdepth.specs.Depths.{row-range, column-range}
-use Rattle.residual.specs.declared.Engine.the-variants.{First}
-use Rattle.residual.specs.Inner.{wht-plan, Filled, row-made, HoldsIn, RowsAreIn, Columned, ColumnsAreIn, Served}
+use Rattle.steps.specs.declared.Engine.the-variants.{First}
+use Rattle.residual.specs.Inner.{wht-plan, Served}
+use Rattle.steps.specs.Inner.{Filled, row-made, HoldsIn, RowsAreIn, Columned, ColumnsAreIn}
 use Rattle.residual.proofs.Whole.{rowed-left, resolved}
 use Rattle.residual.proofs.resolve_wht.Statement.{statement}
 use Rattle.residual.proofs.resolve_wht.Tie as tie

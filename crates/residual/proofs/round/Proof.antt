@@ -8,8 +8,8 @@ use mir.ValLaws.{toZ-ofZ}
 use Rattle.whole.specs.Lists.{at}
 use Rattle.whole.proofs.Held.{from2}
 use Rattle.scaling.specs.Scaling.{rounding}
-use Rattle.residual.specs.Inner.{Filled}
-use Rattle.residual.proofs.Fills.{filled-none, filled-more}
+use Rattle.steps.specs.Inner.{Filled}
+use Rattle.steps.proofs.Fills.{filled-none, filled-more}
 use Rattle.residual.proofs.round.Statement.{statement}
 use Rattle.residual.proofs.round.Tie as tie
 

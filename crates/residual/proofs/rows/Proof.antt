@@ -5,7 +5,7 @@ use mir.Syntax.{w32}
 use mir.ValLaws.{toZ-ofZ}
 use borrow.Author.Needs.{needs}
 use Rattle.whole.proofs.Held.{to2}
-use Rattle.residual.specs.Inner.{RowsLoad}
+use Rattle.steps.specs.Inner.{RowsLoad}
 use Rattle.residual.proofs.rows.Statement.{statement}
 use Rattle.residual.proofs.rows.Tie as tie
 

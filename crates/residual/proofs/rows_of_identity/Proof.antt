@@ -6,9 +6,9 @@ use lib.Dec.{lit≤}
 use lib.IntN.{natAbs}
 use Rattle.whole.specs.Lists.{at}
 use Rattle.passes.proofs.Strides.{not-0}
-use Rattle.residual.specs.Inner.{loaded, Holds}
-use Rattle.residual.proofs.Fills.{rows-none, rows-more}
-use Rattle.residual.proofs.Places.{loaded-small, area, rows-fit}
+use Rattle.steps.specs.Inner.{loaded, Holds}
+use Rattle.steps.proofs.Fills.{rows-none, rows-more}
+use Rattle.steps.proofs.Places.{loaded-small, area, rows-fit}
 use Rattle.residual.proofs.Scaling.{scaled-rows}
 use Rattle.residual.proofs.Whole.{at-holds}
 use Rattle.residual.proofs.rows_of_identity.Statement.{statement}

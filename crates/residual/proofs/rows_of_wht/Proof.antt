@@ -5,10 +5,11 @@ use native.Mathlib.Nat.{le-refl, le-trans}
 use native.Mathlib.Omega.{arith}
 use lib.Dec.{lit≤}
 use Rattle.whole.specs.Lists.{at}
-use Rattle.residual.specs.Inner.{wht-plan, row-made, HoldsIn}
-use Rattle.residual.proofs.Fills.{rows-none, rows-more}
-use Rattle.residual.proofs.Places.{loaded-small}
-use Rattle.residual.proofs.Steps.{row-passable, row-filled}
+use Rattle.residual.specs.Inner.{wht-plan}
+use Rattle.steps.specs.Inner.{row-made, HoldsIn}
+use Rattle.steps.proofs.Fills.{rows-none, rows-more}
+use Rattle.steps.proofs.Places.{loaded-small}
+use Rattle.steps.proofs.Steps.{row-passable, row-filled}
 use Rattle.residual.proofs.rows_of_wht.Statement.{statement}
 use Rattle.residual.proofs.rows_of_wht.Tie as tie
 

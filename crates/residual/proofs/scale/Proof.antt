@@ -8,8 +8,8 @@ use mir.ValLaws.{toZ-ofZ}
 use Rattle.whole.specs.Lists.{at}
 use Rattle.levels.specs.Sides.{side}
 use Rattle.passes.specs.Passes.{identity}
-use Rattle.residual.specs.Inner.{Filled}
-use Rattle.residual.proofs.Fills.{filled-none, filled-more}
+use Rattle.steps.specs.Inner.{Filled}
+use Rattle.steps.proofs.Fills.{filled-none, filled-more}
 use Rattle.residual.proofs.scale.Statement.{statement}
 use Rattle.residual.proofs.scale.Tie as tie
 

@@ -7,8 +7,8 @@ use native.Mathlib.Omega.{arith}
 use borrow.Author.Needs.{needs}
 use Rattle.levels.specs.declared.Plan.{Plan}
 use Rattle.levels.proofs.Sizes.{side-bounds}
-use Rattle.residual.specs.declared.Engine.{Engine}
-use Rattle.residual.specs.declared.Engine.the-variants.{First}
+use Rattle.steps.specs.declared.Engine.{Engine}
+use Rattle.steps.specs.declared.Engine.the-variants.{First}
 use Rattle.residual.specs.Inner.{wht-plan}
 use Rattle.ways.specs.Inner.{Ready, Passed}
 use Rattle.ways.proofs.Painting.{zeros-at, adding, painted, wht-planned, any-shift}

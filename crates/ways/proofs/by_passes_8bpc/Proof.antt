@@ -8,7 +8,7 @@ use borrow.Author.Needs.{needs}
 use Rattle.bitdepth.specs.declared.Depth.the-variants.{Eight}
 use Rattle.levels.specs.declared.Plan.{Plan}
 use Rattle.levels.proofs.Sizes.{side-bounds}
-use Rattle.residual.specs.declared.Engine.the-variants.{First}
+use Rattle.steps.specs.declared.Engine.the-variants.{First}
 use Rattle.residual.specs.Inner.{wht-plan}
 use Rattle.ways.specs.Inner.{Ready, Passed}
 use Rattle.checks.specs.Inner.{Widened}
