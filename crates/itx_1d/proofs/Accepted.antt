@@ -23,15 +23,17 @@ use Rattle.whole.proofs.Held.{from2, same-is}
 use Rattle.levels.specs.Sides.{of4, len, side}
 use Rattle.levels.specs.declared.Kind.{Kind}
 use Rattle.levels.specs.declared.Kind.the-variants.{Dct, Wht}
-use Rattle.itx_1d.specs.declared.Pass.{Pass}
-use Rattle.itx_1d.specs.declared.Pass.the-variants.{Done}
+use Rattle.pass_checks.specs.declared.Pass.{Pass}
+use Rattle.pass_checks.specs.declared.Pass.the-variants.{Done}
 use Rattle.passes.specs.Passes.{Passed, pass, taken, put}
 use Rattle.whole.specs.Answers.{Outcome, acceptance, outcome-of}
-use Rattle.itx_1d.specs.Calls.{is-range, bad-range, accepted, ranged, halved, unranged, Meets}
-use Rattle.itx_1d.specs.Inner.{after, range-check, place-check, element-check, called}
+use Rattle.pass_checks.specs.Checks.{is-range, bad-range}
+use Rattle.itx_1d.specs.Calls.{accepted, ranged, halved, unranged, Meets}
+use Rattle.pass_checks.specs.Inner.{after, range-check, place-check, element-check}
+use Rattle.itx_1d.specs.Inner.{called}
 use Rattle.passes.specs.Inner.{read, Seen, Ranged, Made, looked}
-use Rattle.itx_1d.proofs.Pass.{the-type}
-use Rattle.itx_1d.proofs.Checks.{is-done, refuse}
+use Rattle.pass_checks.proofs.Pass.{the-type}
+use Rattle.pass_checks.proofs.Checks.{is-done, refuse}
 use Rattle.passes.proofs.Strides.{in-reach}
 
 -- the four tests, as the code puts them and as the definition does

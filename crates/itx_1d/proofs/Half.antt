@@ -19,7 +19,8 @@ use Rattle.levels.specs.Sides.{Side, len}
 use Rattle.levels.specs.declared.Kind.the-variants.{Dct}
 use Rattle.passes.specs.Passes.{Passed, pass, filled, lower, taken, put}
 use Rattle.whole.specs.Answers.{Outcome, acceptance}
-use Rattle.itx_1d.specs.Calls.{bad-range, accepted, ranged, halved, refilled, leaving}
+use Rattle.pass_checks.specs.Checks.{bad-range}
+use Rattle.itx_1d.specs.Calls.{accepted, ranged, halved, refilled, leaving}
 use Rattle.itx_1d.proofs.Accepted.{defined, zero-inside}
 use Rattle.passes.proofs.Strides.{in-reach, length-put, kept, put-at}
 

@@ -4,10 +4,11 @@ use mathlib.Core.Bool.{cond}
 use mathlib.Core.List.{List}
 use lib.Dec.{eqb}
 use lib.IntN.{ℤ}
-use Rattle.itx_1d.specs.declared.Pass.{Pass}
-use Rattle.itx_1d.specs.declared.Pass.the-variants.{Done, Range, Stride, Short, Element}
+use Rattle.pass_checks.specs.declared.Pass.{Pass}
+use Rattle.pass_checks.specs.declared.Pass.the-variants.{Done, Range, Stride, Short, Element}
 use Rattle.whole.specs.Answers.{Answer, Outcome}
-use Rattle.itx_1d.specs.Calls.{answer-of, Meets}
+use Rattle.pass_checks.specs.Checks.{answer-of}
+use Rattle.itx_1d.specs.Calls.{Meets}
 
 -- the case that an answer stands for
 back : Answer → Pass

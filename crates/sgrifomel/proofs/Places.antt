@@ -15,10 +15,11 @@ use Rattle.whole.specs.Checks.{Check, accept, refuse, unless}
 use Rattle.levels.specs.Sides.{Side, of4, of8, of16, of32, len}
 use Rattle.levels.specs.declared.Kind.{Kind}
 use Rattle.levels.specs.declared.Kind.the-variants.{Dct, Wht}
-use Rattle.itx_1d.specs.declared.Pass.{Pass}
+use Rattle.pass_checks.specs.declared.Pass.{Pass}
 use Rattle.passes.specs.Passes.{Passed, pass, lower}
 use Rattle.whole.specs.Answers.{Answer, Outcome, outcome-of}
-use Rattle.itx_1d.specs.Calls.{answer-of, bad-range, checks, accepted, judged, ranged, halved, unranged, Meets}
+use Rattle.pass_checks.specs.Checks.{answer-of, bad-range, checks}
+use Rattle.itx_1d.specs.Calls.{accepted, judged, ranged, halved, unranged, Meets}
 use Rattle.sgrifomel.specs.Words.{packed, Packs}
 use Rattle.whole.proofs.Checks.{Refusing, refusing-unless, refusing-at}
 

@@ -4,6 +4,7 @@ ghost use mathlib.Core.Bool.{cond};
 ghost use Prim.Native.Nat.{_*_, _≤_, _<_};
 ghost use Rattle.levels.specs.Sides.{of4, of8, of16, of32};
 ghost use Rattle.itx_1d.specs.Calls as Calls;
+ghost use Rattle.pass_checks.specs.Checks as Checks;
 ghost use Rattle.levels.specs.declared.Kind.the-variants.{Dct, Identity, Adst, FlipAdst};
 ghost use Rattle.itx.specs.Calls as Blocks;
 ghost use Rattle.checks.specs.Table.{plain, live};
@@ -26,8 +27,8 @@ fn bit(mark: bool) -> u64
 
 // No call has a place past the 1,024 numbers of a block, so a word holds it.
 fn pack(pass: Pass) -> u64
-    requires { ⌜ Calls.answer-of pass .place < 1024 ⌝ }
-    ensures { λ r. ⌜ r ≡ packed (Calls.answer-of pass) ⌝ }
+    requires { ⌜ Checks.answer-of pass .place < 1024 ⌝ }
+    ensures { λ r. ⌜ r ≡ packed (Checks.answer-of pass) ⌝ }
 {
     match pass {
         Pass::Done(mark) => bit(mark),

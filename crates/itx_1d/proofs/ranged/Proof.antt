@@ -13,9 +13,11 @@ use Rattle.whole.specs.Numbers.{outside}
 use Rattle.whole.specs.Lists.{at, first}
 use Rattle.whole.proofs.Held.{to2}
 use Rattle.levels.specs.Sides.{side}
-use Rattle.itx_1d.specs.declared.Pass.the-variants.{Done}
-use Rattle.itx_1d.specs.Calls.{bad-range, accepted, Meets}
-use Rattle.itx_1d.specs.Inner.{range-check, checked, called}
+use Rattle.pass_checks.specs.declared.Pass.the-variants.{Done}
+use Rattle.pass_checks.specs.Checks.{bad-range}
+use Rattle.itx_1d.specs.Calls.{accepted, Meets}
+use Rattle.pass_checks.specs.Inner.{range-check, checked}
+use Rattle.itx_1d.specs.Inner.{called}
 use Rattle.passes.specs.Inner.{looked, Seen, Ranged, Passable, Passing, Made}
 use Rattle.passes.proofs.Most.{most-ranged}
 use Rattle.itx_1d.proofs.Accepted.{Judged, refused, all-good, met, seen, ranged-of, passed, called-is, done}

@@ -4,9 +4,9 @@ use mathlib.Core.Bool.{Bool, true, false, cond}
 use Prim.Native.Nat.{ℕ, _*_, _<_}
 use native.Mathlib.Omega.{arith}
 use borrow.Author.Needs.{needs}
-use Rattle.itx_1d.specs.declared.Pass.{Pass}
-use Rattle.itx_1d.specs.declared.Pass.the-variants.{Done}
-use Rattle.itx_1d.specs.Calls.{answer-of}
+use Rattle.pass_checks.specs.declared.Pass.{Pass}
+use Rattle.pass_checks.specs.declared.Pass.the-variants.{Done}
+use Rattle.pass_checks.specs.Checks.{answer-of}
 use Rattle.sgrifomel.specs.Words.{packed}
 use Rattle.sgrifomel.proofs.pack.Statement.{statement}
 use Rattle.sgrifomel.proofs.pack.Tie as tie

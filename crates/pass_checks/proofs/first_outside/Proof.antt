@@ -1,4 +1,4 @@
--- `itx_1d::first_outside` meets its contract.
+-- `pass_checks::first_outside` meets its contract.
 use mathlib.Core.Path.{_≡_, sym, _∙_}
 use mathlib.Core.Bool.{false}
 use Prim.Native.Nat.{ℕ, _≤_, _<_, _*_, _-_}
@@ -12,8 +12,8 @@ use mir.ValLaws.{toZ-ofZ}
 use Rattle.whole.specs.Numbers.{outside}
 use Rattle.whole.specs.Lists.{at}
 use Rattle.whole.proofs.Counts.{first-found, none-first}
-use Rattle.itx_1d.proofs.first_outside.Statement.{statement}
-use Rattle.itx_1d.proofs.first_outside.Tie as tie
+use Rattle.pass_checks.proofs.first_outside.Statement.{statement}
+use Rattle.pass_checks.proofs.first_outside.Tie as tie
 
 abbrev Inv-loop : tie.InvT-loop
 Inv-loop c n stride min max i₀ i = (i ≤ n) × ((k : ℕ) → k < i → outside (at c (k * stride)) (toZ w32 min) (toZ w32 max) ≡ false)

@@ -1,4 +1,4 @@
--- `itx_1d::check_place` meets its contract.
+-- `pass_checks::check_place` meets its contract.
 use mathlib.Core.Path.{_≡_, refl, sym, _∙_}
 use mathlib.Core.Bool.{Bool, true, false}
 use Prim.Native.Nat.{_-_, _*_, _≤_, _<_}
@@ -7,10 +7,10 @@ use native.Mathlib.Omega.{arith}
 use lib.Dec.{eqb, leb}
 use borrow.Author.Needs.{needs}
 use borrow.Author.Tests.{eq-eqb, ne-eqb, le-leb, lt-leb}
-use Rattle.itx_1d.specs.Inner.{after, place-check}
-use Rattle.itx_1d.proofs.Checks.{handed-on, went-on}
-use Rattle.itx_1d.proofs.check_place.Statement.{statement}
-use Rattle.itx_1d.proofs.check_place.Tie as tie
+use Rattle.pass_checks.specs.Inner.{after, place-check}
+use Rattle.pass_checks.proofs.Checks.{handed-on, went-on}
+use Rattle.pass_checks.proofs.check_place.Statement.{statement}
+use Rattle.pass_checks.proofs.check_place.Tie as tie
 
 -- what follows a check that went well, by the two tests
 decided : (e : tie.After-enum-told) (p q : Bool) → let s = e .before .before in eqb (s .args .stride) 0 ≡ p

@@ -1,4 +1,4 @@
--- `itx_1d::check_range` meets its contract.
+-- `pass_checks::check_range` meets its contract.
 use mathlib.Core.Path.{_≡_, sym, _∙_}
 use mathlib.Core.Bool.{Bool, true, false, cond, not, _&&_, _||_}
 use Prim.Native.Nat.{ℕ, _^_}
@@ -10,10 +10,10 @@ use mir.Val.{SFits, hbits, ofZ}
 use Rattle.whole.specs.Numbers.{low, high}
 use Rattle.whole.proofs.Held.{same-bits}
 use Rattle.whole.proofs.Sizes.{abs-fits}
-use Rattle.itx_1d.specs.declared.Pass.the-variants.{Done, Range}
-use Rattle.itx_1d.specs.Calls.{is-range}
-use Rattle.itx_1d.proofs.check_range.Statement.{statement}
-use Rattle.itx_1d.proofs.check_range.Tie as tie
+use Rattle.pass_checks.specs.declared.Pass.the-variants.{Done, Range}
+use Rattle.pass_checks.specs.Checks.{is-range}
+use Rattle.pass_checks.proofs.check_range.Statement.{statement}
+use Rattle.pass_checks.proofs.check_range.Tie as tie
 
 small : (z : ℤ) → T (ltb (natAbs z) (2 ^ hbits w32)) → SFits w32 z
 small z t = abs-fits (le-refl (natAbs z)) t

@@ -5,10 +5,10 @@ use mathlib.Core.List.{[], _∷_}
 use lib.Dec.{T}
 use denote.Enum.Declared.{tagOf}
 use types.Run.{OneOf, miss}
-use Rattle.itx_1d.specs.declared.Pass.{Pass}
-use Rattle.itx_1d.specs.declared.Pass.the-variants.{Done, Range, Stride, Short, Element}
-use Rattle.itx_1d.specs.Inner.{after, place-check}
-use Rattle.itx_1d.proofs.Pass.{the-type}
+use Rattle.pass_checks.specs.declared.Pass.{Pass}
+use Rattle.pass_checks.specs.declared.Pass.the-variants.{Done, Range, Stride, Short, Element}
+use Rattle.pass_checks.specs.Inner.{after, place-check}
+use Rattle.pass_checks.proofs.Pass.{the-type}
 
 -- a refusal is handed on, and after an acceptance the next check decides
 pub handed-on : (p q : Pass) → OneOf (1 ∷ 2 ∷ 3 ∷ 4 ∷ []) (tagOf the-type p) → p ≡ after p q

@@ -1,4 +1,4 @@
--- `itx_1d::check_elements` meets its contract.
+-- `pass_checks::check_elements` meets its contract.
 use mathlib.Core.Path.{_≡_, sym, ap, _∙_}
 use Prim.Native.Nat.{_*_}
 use mir.Syntax.{w32}
@@ -7,11 +7,11 @@ use borrow.Author.Needs.{needs}
 use Rattle.whole.specs.Numbers.{outside}
 use Rattle.whole.specs.Lists.{at, first}
 use Rattle.intops.specs.declared.Found.{Found}
-use Rattle.itx_1d.specs.Inner.{after, element-check}
+use Rattle.pass_checks.specs.Inner.{after, element-check}
 use Rattle.intops.specs.Searches.{found}
-use Rattle.itx_1d.proofs.Checks.{handed-on, went-on}
-use Rattle.itx_1d.proofs.check_elements.Statement.{statement}
-use Rattle.itx_1d.proofs.check_elements.Tie as tie
+use Rattle.pass_checks.proofs.Checks.{handed-on, went-on}
+use Rattle.pass_checks.proofs.check_elements.Statement.{statement}
+use Rattle.pass_checks.proofs.check_elements.Tie as tie
 
 -- what follows a check that went well, by what the search found
 decided : (e : tie.After-first-outside) (p : Found) → let s = e .before .before .before in e .first-outside .result ≡ p

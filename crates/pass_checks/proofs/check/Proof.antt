@@ -1,14 +1,14 @@
--- `itx_1d::check` meets its contract.
+-- `pass_checks::check` meets its contract.
 use mathlib.Core.Path.{sym, _∙_}
 use native.Mathlib.Nat.{le-trans}
 use lib.Dec.{eqb}
 use mir.Syntax.{w32}
 use mir.ValLaws.{toZ-ofZ}
 use Rattle.whole.specs.Lists.{at}
-use Rattle.itx_1d.proofs.Checks.{placed}
+use Rattle.pass_checks.proofs.Checks.{placed}
 use Rattle.passes.proofs.Strides.{not-0, in-reach}
-use Rattle.itx_1d.proofs.check.Statement.{statement}
-use Rattle.itx_1d.proofs.check.Tie as tie
+use Rattle.pass_checks.proofs.check.Statement.{statement}
+use Rattle.pass_checks.proofs.check.Tie as tie
 
 check-elements-requires : tie.Need-check-elements-requires
 check-elements-requires c κs =
