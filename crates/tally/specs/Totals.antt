@@ -66,6 +66,8 @@ a ⊕ b = record {
 }
 
 infixl 6 _⊕_
+-- ---- the table of combinations
+
 -- "rising by w, then h, then type": the combinations in this order are the 272 cells of a table, 17 types for each of 4 heights for each of 4 widths
 abbrev pub cell-w : ℕ → ℕ
 cell-w k = 4 * 2 ^ (k / 68)
