@@ -1,7 +1,6 @@
 // inv_adst4_1d_internal_c of src/itx_1d.rs, as the specification's ADST4 in 64 bits.
 ghost use mathlib.Core.Path.{_≡_};
 ghost use mathlib.Core.List.{_∷_, []};
-ghost use lib.IntN.{ℤ};
 ghost use Rattle.av1.specs.Passes.{av1-adst};
 ghost use Rattle.adst.specs.Asked.{Small4};
 

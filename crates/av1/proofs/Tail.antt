@@ -9,7 +9,6 @@ use lib.IntN.{ℤ, pos, _+ℤ_, _-ℤ_}
 use lib.ListN.{getD, set, length, length-set, List·getD-append}
 use mir.Facts.{and-yes}
 use Rattle.whole.specs.Numbers.{outside}
-use Rattle.whole.specs.Lists.{at}
 use Rattle.av1.specs.Network.{Alg, Step, B, H, two, step, run}
 use Rattle.av1.specs.Values.{clipped, hit, hits}
 

@@ -1,8 +1,7 @@
 // The depth facts of include/common/bitdepth.rs.
 ghost use mathlib.Core.Path.{_≡_};
-ghost use Rattle.bitdepth.specs.Depths.{depth, row-range, column-range, maximum};
+ghost use Rattle.bitdepth.specs.Depths.{depth, row-range, column-range, maximum, check-of};
 ghost use Rattle.bitdepth.specs.Inner.{ends, FactsOf};
-ghost use Rattle.bitdepth.specs.Depths.{check-of};
 
 // The ends of a range -m..m-1.
 pub struct Range {

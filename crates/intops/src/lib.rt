@@ -1,7 +1,7 @@
 // include/common/intops.rs, and the two numbers that every pass is made of.
 ghost use mathlib.Core.Path.{_≡_};
 ghost use Prim.Native.Nat.{_≤_};
-ghost use lib.IntN.{ℤ, _+ℤ_, _*ℤ_, natAbs};
+ghost use lib.IntN.{_+ℤ_, _*ℤ_, natAbs};
 ghost use Rattle.whole.specs.Numbers.{clip, round2};
 ghost use Rattle.whole.specs.Numbers as Numbers;
 ghost use Rattle.intops.specs.Asked as Asked;

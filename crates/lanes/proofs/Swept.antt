@@ -3,7 +3,6 @@ use mathlib.Core.Path.{_≡_, refl, sym, ap, ap₂, _∙_, subst, subst⁻¹}
 use mathlib.Core.Bool.{Bool, true, false, cond, _||_}
 use mathlib.Core.List.{List, [], _∷_, _++_}
 use Prim.Native.Nat.{ℕ, _+_, _≤_, _<_}
-use native.Mathlib.Numerals.{add-one}
 use native.Mathlib.Omega.{arith}
 use lib.Dec.{T}
 use lib.IntN.{ℤ}
@@ -14,7 +13,7 @@ use mir.Val.{SFits, toZ, ofZ}
 use Rattle.whole.specs.Lists.{any}
 use Rattle.whole.proofs.Held.{from2}
 use Rattle.whole.proofs.Clips.{or-false}
-use Rattle.whole.proofs.Counts.{any-snoc, none-of-any, last-or-less}
+use Rattle.whole.proofs.Counts.{any-more, none-of-any, last-or-less}
 use Rattle.av1.specs.Network.{Step, B, H, step, run}
 use Rattle.av1.specs.Values.{exact, clipped, hit, hits}
 use Rattle.dct.specs.Stages.{turns, joins}
@@ -87,10 +86,6 @@ module _ {h flip b : Bool} {ps : List ℕ} {cs : List ℤ} {js : List ℕ} {t : 
         })
 
 -- ---- the first k lanes are done
-
--- whether some line is such, of one line more
-pub any-more : {m r : Bool} (k : ℕ) (f : ℕ → Bool) → m ≡ any k f → r ≡ f k → m || r ≡ any (k + 1) f
-any-more k f e g = (λ i. e i || g i) ∙ sym (any-snoc k f) ∙ ap (λ (n : ℕ). any n f) (sym (add-one k))
 
 pub record Swept (ss : List Step) (lo hi : ℤ) (t : List ℤ) (k : ℕ) (u : List ℤ) (r : Bool) : Type 0 where
   pub long : length u ≡ 1024

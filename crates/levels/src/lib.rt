@@ -1,9 +1,8 @@
 // The type numbers of src/levels.rs, and the decision on size and type that inv_txfm_add_rust makes.
 ghost use mathlib.Core.Path.{_≡_};
 ghost use Prim.Native.Nat.{_≤_};
-ghost use Rattle.levels.specs.Plans.{shift-of, small, only-4x4, kinds-at, kinds-of, plan};
+ghost use Rattle.levels.specs.Plans.{shift-of, small, only-4x4, kinds-at, kinds-of, plan, decision-of};
 ghost use Rattle.levels.specs.Inner.{shift-check, kinds-check};
-ghost use Rattle.levels.specs.Plans.{decision-of};
 
 // What a pass does to a line of a block (document 01, "Sizes, types, depths").
 pub enum Kind {

@@ -8,8 +8,7 @@ use native.Mathlib.Omega.{arith}
 use lib.IntN.{ℤ, natAbs}
 use lib.ListN.{length}
 use Rattle.whole.specs.Lists.{at, tab}
-use Rattle.whole.proofs.Counts.{tab-ext, last-or-less, any-none}
-use Rattle.lanes.proofs.Swept.{any-more}
+use Rattle.whole.proofs.Counts.{tab-ext, last-or-less, any-none, any-more}
 use Rattle.levels.specs.Sides.{len, side}
 use Rattle.levels.specs.declared.Kind.{Kind}
 use Rattle.levels.specs.declared.Plan.{Plan}

@@ -12,7 +12,7 @@ use lib.Dec.{ltb, leb}
 use lib.IntN.{ℤ, pos, negsuc, natAbs}
 use lib.ListN.{take, drop}
 use lib.Signed.{nonNeg}
-use Rattle.whole.specs.Checks.{Check, accept, refuse}
+use Rattle.whole.specs.Checks.{Check, accept, refuse, accepted}
 use Rattle.whole.proofs.Checks.{open-unless, same-accept}
 use Rattle.whole.proofs.Clips.{by-test, or-false, and-true}
 use Rattle.whole.proofs.Counts.{any-none, any-found, none-of-any}
@@ -24,7 +24,6 @@ use Rattle.strided.specs.declared.Spot.{Spot}
 use Rattle.strided.specs.declared.View.{View}
 use Rattle.strided.specs.Planes.{odd, bytes-of, in-pixels, starts, within, rows-outside, not-in, bad-view, spot, begins, spot-outside}
 use Rattle.strided.specs.Planes.{spotted, Spotted, part-when, has-row, row-part, IsPart}
-use Rattle.whole.specs.Checks.{accepted}
 
 nonneg-part : (z : ℤ) → nonNeg z ≡ true → nn z ≡ 0
 nonneg-part (pos n) e = refl

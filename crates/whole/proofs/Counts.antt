@@ -4,6 +4,7 @@ use mathlib.Core.Bool.{Bool, true, false, cond, _||_, or-assoc, or-comm}
 use mathlib.Core.List.{List, [], _∷_, _++_, map}
 use mathlib.Core.Option.{Option, none, some}
 use Prim.Native.Nat.{ℕ, zero, suc, _+_, _-_, _≤_, _<_}
+use native.Mathlib.Numerals.{add-one}
 use native.Mathlib.Omega.{arith}
 use borrow.Author.Tests.{ltb-true, ltb-false}
 use lib.Dec.{ltb}
@@ -98,6 +99,10 @@ any-upto (suc r) (suc n) f h e = ap (λ x. f zero || x) (any-upto r n (λ i. f (
 pub any-snoc : (n : ℕ) (f : ℕ → Bool) → any (suc n) f ≡ any n f || f n
 any-snoc zero f = or-comm (f zero) false
 any-snoc (suc n) f = ap (λ x. f zero || x) (any-snoc n (λ i. f (suc i))) ∙ sym (or-assoc (f zero) (any n (λ i. f (suc i))) (f (suc n)))
+
+-- and of one more
+pub any-more : {m r : Bool} (k : ℕ) (f : ℕ → Bool) → m ≡ any k f → r ≡ f k → m || r ≡ any (k + 1) f
+any-more k f e g = (λ i. e i || g i) ∙ sym (any-snoc k f) ∙ ap (λ (n : ℕ). any n f) (sym (add-one k))
 
 -- ---- the first i
 

@@ -3,8 +3,7 @@
 use mathlib.Core.Path.{_≡_, refl, ap}
 use mathlib.Core.Bool.{Bool, true, false, cond}
 use Prim.Native.Nat.{ℕ, zero, suc, _+_, _*_, _-_, _/_, _^_, _≤_, _<_, suc-le-suc}
-use native.Mathlib.Nat.{div-zero, le-div-iff-mul-le, zero-lt-suc, div-mul-le-self, le-trans, le-refl}
-use native.Mathlib.Nat.{lt-of-le-of-lt}
+use native.Mathlib.Nat.{div-zero, le-div-iff-mul-le, zero-lt-suc, div-mul-le-self, le-trans, le-refl, lt-of-le-of-lt}
 use native.Mathlib.Omega.{arith}
 use lib.IntN.{ℤ, pos, negsuc, negℤ, _+ℤ_, _-ℤ_, _*ℤ_, subℕ, natAbs}
 use lib.Signed.{mag, shrZ}

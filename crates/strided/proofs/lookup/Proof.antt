@@ -12,7 +12,7 @@ use lib.Dec.{ltb}
 use lib.IntN.{natAbs}
 use mir.Syntax.{w64}
 use mir.ValLaws.{toZ-ofZ}
-use Rattle.whole.specs.Checks.{accept}
+use Rattle.whole.specs.Checks.{accept, accepted}
 use Rattle.whole.proofs.Parts.{nn}
 use Rattle.levels.specs.Plans.{shift-of}
 use Rattle.levels.specs.Inner.{shift-check}
@@ -24,7 +24,6 @@ use Rattle.strided.specs.declared.SpotCheck.the-variants.{Found, NotVisi
 use Rattle.strided.specs.declared.View.{View}
 use Rattle.strided.proofs.SpotCheck.{the-type}
 use Rattle.strided.specs.Planes.{starts, begins, spot, spotted, Spotted, part-when, row-part}
-use Rattle.whole.specs.Checks.{accepted}
 use Rattle.strided.specs.Inner.{spot-check}
 use Rattle.strided.proofs.Casts.{read, to-usize}
 use Rattle.strided.proofs.Rows.{rows-in, row-here, spotted-by, part-fits}
