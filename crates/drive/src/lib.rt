@@ -3,7 +3,7 @@
 ghost use mathlib.Core.Path.{_≡_};
 ghost use Prim.Native.Nat.{_+_, _^_, _≤_, _<_};
 ghost use lib.ListN.{length};
-ghost use Rattle.jobs.specs.Jobs.{task-of};
+ghost use Rattle.task.specs.Jobs.{task-of};
 ghost use Rattle.written.specs.Output.{Next, Last};
 ghost use Rattle.drive.specs.Buffers.{Moved, FilledFrom};
 use jobs::step::Job;

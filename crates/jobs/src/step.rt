@@ -5,13 +5,14 @@ ghost use mathlib.Core.List.{List};
 ghost use Prim.Native.Nat.{ℕ, _+_};
 ghost use lib.Dec.{leb};
 ghost use lib.ListN.{length};
-ghost use Rattle.jobs.specs.Steps.{outset, before};
-ghost use Rattle.jobs.specs.declared.step.Job.the-variants as Job;
+ghost use Rattle.task.specs.Steps.{outset, before};
+ghost use Rattle.task.specs.declared.Job.the-variants as Job;
 ghost use Rattle.tally.specs.Inner.{Sane};
 ghost use Rattle.blockfile.specs.Inner.{block-of};
-ghost use Rattle.jobs.specs.Inner.{Whole, Roomy, Refused, Fallen, Ended, DoneAt};
-ghost use Rattle.jobs.specs.Stepping.{is-totals, sane-for, io, StepAt, place-at, roomy, Turned};
-ghost use Rattle.jobs.specs.Jobs.{Mind, task-of};
+ghost use Rattle.jobs.specs.Inner.{Whole, DoneAt};
+ghost use Rattle.task.specs.Inner.{Roomy};
+ghost use Rattle.task.specs.Stepping.{sane-for, io, StepAt, place-at, roomy, Turned};
+ghost use Rattle.task.specs.Jobs.{Mind};
 use act::act;
 use blockfile::is_known;
 use blockfile::record::Found;
@@ -23,117 +24,18 @@ use mend::salvage;
 use numbers::Number;
 use numbers::read_number;
 use numbers::write_number;
-use report::put_report;
 use tally::add;
 use tally::are_sane;
 use tally::keep;
-use text::refused_line;
+use task::fallen;
+use task::finish;
+use task::is_past;
+use task::is_totals;
+use task::refuse;
 
-// What a program does with a block file.
-pub enum Job {
-    // E1's and E11's: the file back with its blocks done.
-    Blocks,
-    // E14's: the file back with its coefficients moved into their range.
-    Salvage,
-    // E7's: the totals over at most so many records.
-    Totals(u32),
-}
-
-// What a step did: it wrote of the first number or a record, in a file of this version, `next` being the place after what it read, `put` and
-// `told` the places after what it wrote; it has too little room; it wants more bytes; or it wrote what comes last.
-pub enum Turn {
-    Wrote {
-        version: u32,
-        next: usize,
-        put: usize,
-        told: usize,
-    },
-    Full,
-    More,
-    Stop {
-        put: usize,
-        told: usize,
-    },
-}
-
-// Whether a job says on standard output what it has to say, and nothing else.
-fn is_totals(job: Job) -> bool
-    ensures { λ r. ⌜ r ≡ is-totals job ⌝ }
-{
-    match job {
-        Job::Blocks => false,
-        Job::Salvage => false,
-        Job::Totals(_) => true,
-    }
-}
-
-// Number `record` of the file is refused by k, which ends the run.
-fn refuse(
-    job: Job,
-    record: u64,
-    k: u8,
-    output: &mut [u8],
-    put: usize,
-    error: &mut [u8],
-    told: usize,
-) -> Turn
-    requires { ⌜ Roomy (now output) put (now error) told ⌝ }
-    ensures { λ r. ⌜ Refused job «record» k (io (now (output .entry)) put (now (error .entry)) told (now (output .exit)) (now (error .exit)) r) ⌝ }
-{
-    if is_totals(job) {
-        let end = refused_line(output, put, record, k);
-        return Turn::Stop { put: end, told };
-    }
-    let end = refused_line(error, told, record, k);
-    Turn::Stop { put, told: end }
-}
-
-// What reading refused: bytes that end inside a number or record are refused only if they are the last.
-fn fallen(
-    job: Job,
-    k: u8,
-    is_last: bool,
-    record: u64,
-    output: &mut [u8],
-    put: usize,
-    error: &mut [u8],
-    told: usize,
-) -> Turn
-    requires { ⌜ Roomy (now output) put (now error) told ⌝ }
-    ensures { λ r. ⌜ Fallen job k «is_last» «record»
-        (io (now (output .entry)) put (now (error .entry)) told (now (output .exit)) (now (error .exit)) r) ⌝ }
-{
-    if k == 15 {
-        if !is_last {
-            return Turn::More;
-        }
-    }
-    refuse(job, record, k, output, put, error, told)
-}
-
-// The file has ended.
-fn finish(job: Job, sums: &[u64], output: &mut [u8], put: usize, error: &[u8], told: usize) -> Turn
-    requires { ⌜ (sane-for job (now sums) ≡ true) × Roomy (now output) put (now error) told ⌝ }
-    ensures { λ r. ⌜ Ended job (now (sums .entry))
-        (io (now (output .entry)) put (now (error .entry)) told (now (output .exit)) (now (error .entry)) r) ⌝ }
-{
-    if is_totals(job) {
-        let end = put_report(sums, output, put);
-        return Turn::Stop { put: end, told };
-    }
-    Turn::Stop { put, told }
-}
-
-// Whether a record of this number is one too many.
-fn is_past(job: Job, record: u64) -> bool
-    ensures { λ r. ⌜ r ≡ task-of job .past «record» ⌝ }
-{
-    match job {
-        Job::Blocks => false,
-        Job::Salvage => false,
-        Job::Totals(most) => (most as u64) < record,
-    }
-}
+// The jobs, and what a step answers.
+pub use task::Job;
+pub use task::Turn;
 
 // The first number.
 fn begin(

@@ -20,9 +20,9 @@ use Rattle.numbers.proofs.Forms.{each-map, each-length}
 use Rattle.blockfile.proofs.Records.{plain}
 use Rattle.blockfile.proofs.Files.{ReadAs, reads, blocks-back, blocks-only}
 use Rattle.act.specs.Rows.{spread, gathered, buffered, in-file}
-use Rattle.jobs.specs.Task.{Written, both, ahead, Done, done, bad, begun, judged, told, told-file, run}
+use Rattle.task.specs.Task.{Written, both, ahead, Done, done, bad, begun, judged, told, told-file, run}
 use Rattle.act.specs.Act.{call-for, given, call}
-use Rattle.jobs.specs.Blocks.{left, done-by, said, blocks}
+use Rattle.task.specs.Blocks.{left, done-by, said, blocks}
 use Rattle.written.specs.Shown.{act, judged-block, acted-on, shown, shown-file}
 use Rattle.written.specs.Rewrite.{as-one, SamePixels}
 use Rattle.written.proofs.Versions.{each-at, each-tab, zero-fits, fits-at, spread-fits, one-plain, all-mapped, same-pictures}

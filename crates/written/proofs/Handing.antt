@@ -6,7 +6,7 @@ use mathlib.Core.List.{List, [], _++_, append-assoc}
 use Prim.Native.Nat.{ℕ}
 use lib.ListN.{length, take}
 use lib.Seq.{take-at}
-use Rattle.jobs.specs.Task.{Written, both, ahead, Task, run}
+use Rattle.task.specs.Task.{Written, both, ahead, Task, run}
 use Rattle.written.specs.Output.{LastOf, Handed, none, part}
 
 pub ahead-ahead : (a b c : Written) → ahead a (ahead b c) ≡ ahead (ahead a b) c

@@ -9,8 +9,8 @@ use lib.ListN.{length, take, drop, length-take, length-drop, length-append}
 use lib.Seq.{take-add, sets-eq, take-at}
 use Rattle.numbers.specs.Inner.{Put}
 use Rattle.numbers.proofs.Writing.{put-length}
-use Rattle.jobs.specs.Task.{Written, both, nothing, ahead, Task, run}
-use Rattle.jobs.specs.Steps.{Place, outset}
+use Rattle.task.specs.Task.{Written, both, nothing, ahead, Task, run}
+use Rattle.task.specs.Steps.{Place, outset}
 use Rattle.written.specs.Following.{remaining}
 use Rattle.written.specs.Output.{Next, Last}
 use Rattle.written.proofs.Handing.{ahead-ahead}

@@ -8,17 +8,17 @@ use native.Mathlib.Numerals.{add-one}
 use lib.ListN.{length, take, drop, replicate, length-take, length-drop}
 use Rattle.numbers.proofs.Writing.{put-length}
 use Rattle.tally.proofs.Tallies.{none-yet}
-use Rattle.jobs.specs.Task.{ahead}
-use Rattle.jobs.specs.Steps.{Place, before, Step, wrote, wanted, closed, number, mind, step}
+use Rattle.task.specs.Task.{ahead}
+use Rattle.task.specs.Steps.{Place, before, Step, wrote, wanted, closed, number, mind, step}
 use Rattle.written.specs.Following.{remaining, Follows}
-use Rattle.jobs.specs.Totalling.{totalling}
+use Rattle.task.specs.Totalling.{totalling}
 use Rattle.written.specs.Output.{Last}
-use Rattle.jobs.specs.Stepping.{Minds, version-of, mind-at, mind-after, turn-of, io, Stepped, place-at, roomy, Turned}
-use Rattle.jobs.specs.Jobs.{Mind, task-of}
-use Rattle.jobs.specs.declared.step.Job.{Job}
-use Rattle.jobs.specs.declared.step.Job.the-variants as Job
-use Rattle.jobs.specs.declared.step.Turn.{Turn}
-use Rattle.jobs.specs.declared.step.Turn.the-variants.{Wrote, Full, More, Stop}
+use Rattle.task.specs.Stepping.{Minds, version-of, mind-at, mind-after, turn-of, io, Stepped, place-at, roomy, Turned}
+use Rattle.task.specs.Jobs.{Mind, task-of}
+use Rattle.task.specs.declared.Job.{Job}
+use Rattle.task.specs.declared.Job.the-variants as Job
+use Rattle.task.specs.declared.Turn.{Turn}
+use Rattle.task.specs.declared.Turn.the-variants.{Wrote, Full, More, Stop}
 use Rattle.written.proofs.Streaming.{follows}
 use Rattle.written.proofs.Held.{Running, unchanged, stepped, closes}
 

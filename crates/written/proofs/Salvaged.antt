@@ -43,11 +43,11 @@ use Rattle.blockfile.specs.File.{End, here, refused-at, file, read-blocks, writ
 use Rattle.numbers.proofs.Forms.{each-length}
 use Rattle.blockfile.proofs.Files.{blocks-back, blocks-only}
 use Rattle.act.specs.Rows.{spread, buffered}
-use Rattle.jobs.specs.Task.{Written, both, ahead, begun, told, told-file, run}
+use Rattle.task.specs.Task.{Written, both, ahead, begun, told, told-file, run}
 use Rattle.act.specs.Act.{call-for, given, call}
-use Rattle.jobs.specs.Blocks.{said}
+use Rattle.task.specs.Blocks.{said}
 use Rattle.mend.specs.Mend.{planned, range, moved, mended, mend, changes-of, before9, InRange, PixelsLow, lines, all-lines}
-use Rattle.jobs.specs.Salvage.{salvage}
+use Rattle.task.specs.Salvage.{salvage}
 use Rattle.written.specs.Salvaged.{pixels-line}
 use Rattle.written.proofs.Versions.{spread-covers, each-mapped, all-mapped}
 use Rattle.mend.proofs.Mends.{in-range-stays, mended-in-range}
@@ -295,7 +295,7 @@ told-next v i b bs e is =
     ∙ ap (both (write-each (form v) (map mend (b ∷ bs)))) (sym (append-assoc (lines i (changes-of b)) (all-lines (suc i) bs) (said e)))
 
 told-is : (v i : ℕ) (bs : List Block) (e : End) → told salvage v i tt bs e ≡ both (write-each (form v) (map mend bs)) (all-lines i bs ++ said e)
-unfolding told salvage begun write-each all-lines Rattle.jobs.specs.Task.judged
+unfolding told salvage begun write-each all-lines Rattle.task.specs.Task.judged
 told-is v i [] here = refl
 told-is v i [] (refused-at j k) = refl
 told-is v i (b ∷ bs) e = told-next v i b bs e (told-is v (suc i) bs e)

@@ -17,8 +17,8 @@ use Rattle.numbers.proofs.Forms.{whole}
 use Rattle.numbers.proofs.Rooms.{number-room, only-if-room}
 use Rattle.blockfile.proofs.Records.{form-lawful, form-room, some-form}
 use Rattle.blockfile.proofs.Files.{records-step, first-lawful}
-use Rattle.jobs.specs.Task.{Written, Done, done, bad, Task, begun, judged, told, told-file, run}
-use Rattle.jobs.specs.Steps.{Place, outset, before, wanted, number, mind, ending, falling, opened, acting, came, step}
+use Rattle.task.specs.Task.{Written, Done, done, bad, Task, begun, judged, told, told-file, run}
+use Rattle.task.specs.Steps.{Place, outset, before, wanted, number, mind, ending, falling, opened, acting, came, step}
 use Rattle.written.specs.Following.{remaining, Follows}
 
 module _ {S : Type 0} (t : Task S) where

@@ -23,9 +23,9 @@ use Rattle.blockfile.specs.Record.{Block, count, Plain}
 use Rattle.blockfile.specs.File.{End, Records}
 use Rattle.blockfile.proofs.Records.{both}
 use Rattle.act.specs.Rows.{spread}
-use Rattle.jobs.specs.Task.{done, bad}
+use Rattle.task.specs.Task.{done, bad}
 use Rattle.act.specs.Act.{given, call}
-use Rattle.jobs.specs.Blocks.{left, done-by}
+use Rattle.task.specs.Blocks.{left, done-by}
 use Rattle.written.specs.Shown.{act, judged-block, acted-on}
 use Rattle.written.specs.Rewrite.{as-one, pictures}
 

@@ -6,9 +6,9 @@ use Prim.Native.Nat.{ℕ, suc, _<_}
 use lib.ListN.{length}
 use Rattle.blockfile.specs.Record.{form}
 use Rattle.blockfile.specs.File.{records}
-use Rattle.jobs.specs.Task.{Written, ahead, Task, told, run}
-use Rattle.jobs.specs.Steps.{Place, outset, before, Step, wrote, wanted, closed, number}
-use Rattle.jobs.specs.Stepping.{version-of}
+use Rattle.task.specs.Task.{Written, ahead, Task, told, run}
+use Rattle.task.specs.Steps.{Place, outset, before, Step, wrote, wanted, closed, number}
+use Rattle.task.specs.Stepping.{version-of}
 
 module _ {S : Type 0} (t : Task S) where
   -- what is written from a place on, of the bytes bs

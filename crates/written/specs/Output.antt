@@ -5,7 +5,7 @@ use mathlib.Core.Bool.{Bool, true}
 use mathlib.Core.List.{List, [], _++_}
 use Prim.Native.Nat.{ℕ}
 use lib.ListN.{length}
-use Rattle.jobs.specs.Task.{Written, both, nothing, ahead, Task, run}
+use Rattle.task.specs.Task.{Written, both, nothing, ahead, Task, run}
 
 module _ {S : Type 0} (t : Task S) where
   -- whatever follows `past`, this comes next after so many bytes

@@ -5,7 +5,7 @@ use Prim.Native.Nat.{ℕ}
 use Rattle.blockfile.specs.Record.{Block}
 use Rattle.blockfile.specs.File.{here, Records, file, read-blocks}
 use Rattle.act.specs.Rows.{spread}
-use Rattle.jobs.specs.Task.{Written}
+use Rattle.task.specs.Task.{Written}
 
 -- the same block with eob 1 and all of its w·h coefficients, in buffer order
 abbrev pub as-one : Block → Block

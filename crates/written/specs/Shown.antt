@@ -4,9 +4,9 @@ use Prim.Native.Nat.{ℕ, suc}
 use Rattle.text.specs.Text.{refused-line}
 use Rattle.blockfile.specs.Record.{Block}
 use Rattle.blockfile.specs.File.{End, refused-at, Records, File, unknown, file, write-blocks}
-use Rattle.jobs.specs.Task.{Written, both, Done, done, bad}
+use Rattle.task.specs.Task.{Written, both, Done, done, bad}
 use Rattle.act.specs.Act.{call}
-use Rattle.jobs.specs.Blocks.{left, done-by, said}
+use Rattle.task.specs.Blocks.{left, done-by, said}
 
 -- the call is made on a record
 unfoldable pub act : ℕ → Block → Done Block

@@ -8,12 +8,12 @@ use Prim.Native.Nat.{ℕ, _+_, _-_, _*_, _≤_, _<_}
 use native.Mathlib.Omega.{arith}
 use borrow.Author.Needs.{needs}
 use lib.ListN.{length, length-take}
-use Rattle.jobs.specs.Steps.{mind}
-use Rattle.jobs.specs.Stepping.{Minds, place-at}
-use Rattle.jobs.specs.Jobs.{Mind, task-of}
-use Rattle.jobs.specs.declared.step.Job.{Job}
-use Rattle.jobs.specs.declared.step.Turn.{Turn}
-use Rattle.jobs.specs.declared.step.Turn.the-variants as Turn
+use Rattle.task.specs.Steps.{mind}
+use Rattle.task.specs.Stepping.{Minds, place-at}
+use Rattle.task.specs.Jobs.{Mind, task-of}
+use Rattle.task.specs.declared.Job.{Job}
+use Rattle.task.specs.declared.Turn.{Turn}
+use Rattle.task.specs.declared.Turn.the-variants as Turn
 use Rattle.written.proofs.Held.{Running, begin, next, flushed, to-the-front, filled, as-before}
 use Rattle.written.proofs.Runs.{After, after, minds-none}
 use Rattle.drive.specs.Buffers.{InBuffer}

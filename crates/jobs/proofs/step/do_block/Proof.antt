@@ -2,8 +2,9 @@
 use mathlib.Core.Path.{ap}
 use native.Mathlib.Omega.{arith}
 use lib.ListN.{length-take}
-use Rattle.jobs.specs.Stepping.{is-totals}
-use Rattle.jobs.proofs.Turns.{as-job, sane-at}
+use Rattle.task.specs.Stepping.{is-totals}
+use Rattle.jobs.proofs.Turns.{as-job}
+use Rattle.task.proofs.Ends.{sane-at}
 use borrow.Author.Needs.{needs}
 use Rattle.jobs.proofs.step.do_block.Statement.{statement}
 use Rattle.jobs.proofs.step.do_block.Tie as tie

@@ -10,10 +10,11 @@ use Rattle.blockfile.specs.Inner.{fronted, RecordAt}
 use Rattle.blockfile.specs.Record.{area, form, Plain}
 use Rattle.blockfile.specs.declared.record.Head.{Head}
 use Rattle.blockfile.proofs.Records.{area-most, form-lawful, plain}
-use Rattle.jobs.specs.Jobs.{task-of}
-use Rattle.jobs.specs.Steps.{wanted}
+use Rattle.task.specs.Jobs.{task-of}
+use Rattle.task.specs.Steps.{wanted}
 use Rattle.numbers.proofs.Writing.{put-none}
-use Rattle.jobs.proofs.Turns.{put-both, past-record, end-record, more-record, refused-record, did}
+use Rattle.task.proofs.Ends.{put-both}
+use Rattle.jobs.proofs.Turns.{past-record, end-record, more-record, refused-record, did}
 use borrow.Author.Needs.{needs}
 use Rattle.jobs.proofs.step.go_on.Statement.{statement}
 use Rattle.jobs.proofs.step.go_on.Tie as tie

@@ -5,8 +5,8 @@ use Prim.Native.Nat.{_+_}
 use lib.Dec.{leb}
 use lib.ListN.{length}
 use borrow.Author.Tests.{leb-true, not-true, not-false}
-use Rattle.jobs.specs.Inner.{Roomy}
-use Rattle.jobs.specs.Stepping.{sane-for}
+use Rattle.task.specs.Inner.{Roomy}
+use Rattle.task.specs.Stepping.{sane-for}
 use Rattle.jobs.proofs.Turns.{place-later}
 use borrow.Author.Needs.{needs}
 use Rattle.jobs.proofs.step.step.Statement.{statement}

@@ -1,17 +1,17 @@
--- `step::fallen` meets its contract.
+-- `fallen` meets its contract.
 use mathlib.Core.Logic.{⊎-elim}
 use mathlib.Core.Path.{_≡_, refl, ap}
 use mathlib.Core.Bool.{Bool, true, false, not, _&&_}
 use lib.Dec.{eqb}
 use native.Mathlib.Omega.{arith}
 use borrow.Author.Tests.{eq-eqb, ne-eqb, not-true}
-use Rattle.jobs.specs.Jobs.{task-of}
-use Rattle.jobs.specs.Steps.{wanted, mind, falling}
+use Rattle.task.specs.Jobs.{task-of}
+use Rattle.task.specs.Steps.{wanted, mind, falling}
 use Rattle.numbers.proofs.Writing.{put-none}
-use Rattle.jobs.proofs.Turns.{put-both}
+use Rattle.task.proofs.Ends.{put-both}
 use borrow.Author.Needs.{needs}
-use Rattle.jobs.proofs.step.fallen.Statement.{statement}
-use Rattle.jobs.proofs.step.fallen.Tie as tie
+use Rattle.task.proofs.fallen.Statement.{statement}
+use Rattle.task.proofs.fallen.Tie as tie
 
 neither : (c : tie.Joined1) → let a = c .before .before .before .args in eqb (a .k) 15 && not (a .is-last) ≡ false
 neither c =

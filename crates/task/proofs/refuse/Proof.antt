@@ -1,10 +1,10 @@
--- `step::refuse` meets its contract.
+-- `refuse` meets its contract.
 use mathlib.Core.Path.{sym, _∙_}
 use native.Mathlib.Omega.{arith}
-use Rattle.jobs.proofs.Turns.{refuses-out, refuses-err}
+use Rattle.task.proofs.Ends.{refuses-out, refuses-err}
 use borrow.Author.Needs.{needs}
-use Rattle.jobs.proofs.step.refuse.Statement.{statement}
-use Rattle.jobs.proofs.step.refuse.Tie as tie
+use Rattle.task.proofs.refuse.Statement.{statement}
+use Rattle.task.proofs.refuse.Tie as tie
 
 returns : tie.Need-returns
 returns c =

@@ -10,7 +10,7 @@ use Rattle.blockfile.specs.File.{End, here, refused-at}
 use Rattle.text.specs.Text.{refused-line}
 use Rattle.act.specs.Rows.{in-file}
 use Rattle.act.specs.Act.{call}
-use Rattle.jobs.specs.Task.{both, Done, done, bad, Task}
+use Rattle.task.specs.Task.{both, Done, done, bad, Task}
 
 -- what was done, if the call was accepted
 unfoldable pub done-by : {A : Type 0} → Outcome → A → Done A

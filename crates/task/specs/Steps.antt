@@ -8,7 +8,7 @@ use Rattle.numbers.specs.Read.{Read, got, refused}
 use Rattle.blockfile.specs.Record.{Block, form}
 use Rattle.blockfile.specs.File.{End, here, refused-at, known}
 use Rattle.blockfile.specs.Inner.{first}
-use Rattle.jobs.specs.Task.{Written, Done, done, bad, Task}
+use Rattle.task.specs.Task.{Written, Done, done, bad, Task}
 
 -- before the first number; or before record i of a file of version v, with what is kept in mind
 pub data Place (S : Type 0) : Type 0 where

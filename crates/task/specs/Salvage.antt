@@ -5,8 +5,8 @@ use mathlib.Core.List.{[]}
 use Rattle.numbers.specs.Form.{number}
 use Rattle.blockfile.specs.Record.{form}
 use Rattle.mend.specs.Mend.{mend, changes-of, lines}
-use Rattle.jobs.specs.Task.{both, done, Task}
-use Rattle.jobs.specs.Blocks.{said}
+use Rattle.task.specs.Task.{both, done, Task}
+use Rattle.task.specs.Blocks.{said}
 
 unfoldable pub salvage : Task (Unit {0})
 unfolding form lines said number

@@ -1,13 +1,13 @@
--- `step::is_past` meets its contract.
+-- `is_past` meets its contract.
 use mathlib.Core.Path.{sym, ap}
-use Rattle.jobs.specs.Blocks.{blocks}
-use Rattle.jobs.specs.Salvage.{salvage}
-use Rattle.jobs.specs.Totalling.{totalling}
-use Rattle.jobs.specs.Jobs.{task-of}
-use Rattle.jobs.specs.declared.step.Job.{Job}
+use Rattle.task.specs.Blocks.{blocks}
+use Rattle.task.specs.Salvage.{salvage}
+use Rattle.task.specs.Totalling.{totalling}
+use Rattle.task.specs.Jobs.{task-of}
+use Rattle.task.specs.declared.Job.{Job}
 use borrow.Author.Needs.{needs}
-use Rattle.jobs.proofs.step.is_past.Statement.{statement}
-use Rattle.jobs.proofs.step.is_past.Tie as tie
+use Rattle.task.proofs.is_past.Statement.{statement}
+use Rattle.task.proofs.is_past.Tie as tie
 
 returns : tie.Need-returns
 unfolding blocks

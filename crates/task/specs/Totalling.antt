@@ -6,9 +6,9 @@ use Rattle.text.specs.Text.{refused-line}
 use Rattle.tally.specs.Totals.{Tally, tally, totals}
 use Rattle.report.specs.Report.{report}
 use Rattle.blockfile.specs.File.{End, here, refused-at}
-use Rattle.jobs.specs.Task.{Written, both, nothing, Task}
+use Rattle.task.specs.Task.{Written, both, nothing, Task}
 use Rattle.act.specs.Act.{call}
-use Rattle.jobs.specs.Blocks.{done-by}
+use Rattle.task.specs.Blocks.{done-by}
 
 -- "E1's line goes to standard output and is all that is written"
 unfoldable pub summed : List Tally → End → Written

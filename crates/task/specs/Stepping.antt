@@ -8,13 +8,13 @@ use lib.ListN.{length, drop}
 use Rattle.numbers.specs.Inner.{Put}
 use Rattle.tally.specs.Totals.{totals}
 use Rattle.tally.specs.Inner.{sums-of, sane}
-use Rattle.jobs.specs.Task.{Written, nothing}
-use Rattle.jobs.specs.Steps.{Place, outset, before, Step, wrote, wanted, closed, mind, step}
-use Rattle.jobs.specs.declared.step.Job.{Job}
-use Rattle.jobs.specs.declared.step.Job.the-variants as Job
-use Rattle.jobs.specs.declared.step.Turn.{Turn}
-use Rattle.jobs.specs.declared.step.Turn.the-variants as Turn
-use Rattle.jobs.specs.Jobs.{Mind, task-of}
+use Rattle.task.specs.Task.{Written, nothing}
+use Rattle.task.specs.Steps.{Place, outset, before, Step, wrote, wanted, closed, mind, step}
+use Rattle.task.specs.declared.Job.{Job}
+use Rattle.task.specs.declared.Job.the-variants as Job
+use Rattle.task.specs.declared.Turn.{Turn}
+use Rattle.task.specs.declared.Turn.the-variants as Turn
+use Rattle.task.specs.Jobs.{Mind, task-of}
 
 abbrev pub is-totals : Job → Bool
 is-totals Job.Blocks = false

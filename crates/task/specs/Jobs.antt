@@ -1,12 +1,12 @@
 -- Which task each job is: E1 and E11, E14, E7.
 use mathlib.Core.List.{List}
 use Rattle.tally.specs.Totals.{Tally}
-use Rattle.jobs.specs.Task.{Task}
-use Rattle.jobs.specs.Blocks.{blocks}
-use Rattle.jobs.specs.Salvage.{salvage}
-use Rattle.jobs.specs.Totalling.{totalling}
-use Rattle.jobs.specs.declared.step.Job.{Job}
-use Rattle.jobs.specs.declared.step.Job.the-variants as Job
+use Rattle.task.specs.Task.{Task}
+use Rattle.task.specs.Blocks.{blocks}
+use Rattle.task.specs.Salvage.{salvage}
+use Rattle.task.specs.Totalling.{totalling}
+use Rattle.task.specs.declared.Job.{Job}
+use Rattle.task.specs.declared.Job.the-variants as Job
 
 -- what a job keeps in mind from record to record
 abbrev pub Mind : Job → Type 0

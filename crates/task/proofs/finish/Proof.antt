@@ -1,10 +1,10 @@
--- `step::finish` meets its contract.
+-- `finish` meets its contract.
 use mathlib.Core.Path.{sym, _∙_}
 use native.Mathlib.Omega.{arith}
-use Rattle.jobs.proofs.Turns.{sane-at, ends-silent, ends-reported}
+use Rattle.task.proofs.Ends.{sane-at, ends-silent, ends-reported}
 use borrow.Author.Needs.{needs}
-use Rattle.jobs.proofs.step.finish.Statement.{statement}
-use Rattle.jobs.proofs.step.finish.Tie as tie
+use Rattle.task.proofs.finish.Statement.{statement}
+use Rattle.task.proofs.finish.Tie as tie
 
 put-report-requires : tie.Need-put-report-requires
 put-report-requires c κs =
