@@ -5,9 +5,9 @@
 ghost use mathlib.Core.Path.{_≡_};
 ghost use Prim.Native.Nat.{_≤_, _<_};
 ghost use lib.ListN.{length};
-use jobs::step::Job;
-use jobs::step::Turn;
 use jobs::step::step;
+use task::Job;
+use task::Turn;
 
 // How many bytes were written to either output; none to both if the run did not end.
 struct Ran {

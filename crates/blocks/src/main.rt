@@ -1,5 +1,5 @@
 // Reads a block file from standard input and writes it to standard output with its blocks done.
-use jobs::step::Job;
+use task::Job;
 
 fn main() {
     drive::run(Job::Blocks);

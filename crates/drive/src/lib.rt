@@ -6,9 +6,9 @@ ghost use lib.ListN.{length};
 ghost use Rattle.task.specs.Jobs.{task-of};
 ghost use Rattle.written.specs.Output.{Next, Last};
 ghost use Rattle.drive.specs.Buffers.{Moved, FilledFrom};
-use jobs::step::Job;
-use jobs::step::Turn;
 use jobs::step::step;
+use task::Job;
+use task::Turn;
 
 // What a read gave: the number of bytes that the buffer holds then, the end of the input, or a failure.
 pub enum Filled {

@@ -1,5 +1,5 @@
 // Reads a block file from standard input and prints the totals over its records.
-use jobs::step::Job;
+use task::Job;
 
 fn main() {
     drive::run(Job::Totals(4294967295));
