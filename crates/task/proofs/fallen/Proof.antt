@@ -1,4 +1,4 @@
--- `fallen` meets its contract.
+-- `task::fallen` meets its contract.
 use mathlib.Core.Logic.{⊎-elim}
 use mathlib.Core.Path.{_≡_, refl, ap}
 use mathlib.Core.Bool.{Bool, true, false, not, _&&_}

@@ -1,4 +1,4 @@
--- `finish` meets its contract.
+-- `task::finish` meets its contract.
 use mathlib.Core.Path.{sym, _∙_}
 use native.Mathlib.Omega.{arith}
 use Rattle.task.proofs.Ends.{sane-at, ends-silent, ends-reported}

@@ -1,4 +1,4 @@
--- `is_past` meets its contract.
+-- `task::is_past` meets its contract.
 use mathlib.Core.Path.{sym, ap}
 use Rattle.task.specs.Blocks.{blocks}
 use Rattle.task.specs.Salvage.{salvage}

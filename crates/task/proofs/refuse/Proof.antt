@@ -1,4 +1,4 @@
--- `refuse` meets its contract.
+-- `task::refuse` meets its contract.
 use mathlib.Core.Path.{sym, _∙_}
 use native.Mathlib.Omega.{arith}
 use Rattle.task.proofs.Ends.{refuses-out, refuses-err}
