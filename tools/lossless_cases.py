@@ -1,14 +1,13 @@
 #!/usr/bin/env python3
-"""Makes the files of crates/lossless_cases: residuals for the lossless writer, and what the program has to write of them.
+"""Makes the lines of crates/known about the lossless writer: residuals, and what the program has to write of them.
 
-    tools/lossless_cases.py CRATE   writes CRATE/stdin and CRATE/stdout
+    tools/lossless_cases.py   makes these lines of stdin and stdout anew; the others stay
 
 Written from E10 by itself. That a prediction p becomes p + r is stated, not computed by a transform. The coefficients are found by
 solving the steps of the specification's inverse Walsh-Hadamard transform backwards, and tried by running these steps forwards.
 """
+import pathlib
 import random
-import struct
-import sys
 
 MOST = {8: 255, 10: 1023, 12: 4095}
 ROW = {8: 32768, 10: 131072, 12: 524288}
@@ -76,27 +75,27 @@ def refusal(residual, lent, room, depth):
     return 0, 0
 
 
+def asked(case):
+    depth, lent, room, eob, residual, pixels = case
+    return f"lossless {depth} residual{told(residual[:lent])} coefficients {room} eob {eob} pixels{told(pixels)}"
+
+
 def line(case):
     depth, lent, room, eob, residual, pixels = case
     number, place = refusal(residual, lent, room, depth)
     made = coefficients(residual[:16], depth) if number == 0 else []
     after = made + [LEFT] * (room - len(made))
-    text = f"depth {depth} residual{told(residual[:lent])} coefficients{told([LEFT] * room)}: {number} {place} no coefficients{told(after)}"
+    text = f"{asked(case)}: {number} {place} no coefficients{told(after)}"
     if number == 0:
         done = [p + r for p, r in zip(pixels, residual)]
         assert all(0 <= v <= MOST[depth] for v in done)
         rest = [0] * 16 + after[16:]
-        text += f" eob {eob} pixels{told(pixels)}: 0 0 no pixels{told(done)} coefficients{told(rest)}"
-    return text + "\n"
+        text += f": 0 0 no pixels{told(done)} coefficients{told(rest)}"
+    return text
 
 
 def told(numbers):
     return "".join(f" {v}" for v in numbers)
-
-
-def record(case):
-    depth, lent, room, eob, residual, pixels = case
-    return struct.pack("<IIIi20i16I", depth, lent, room, eob, *residual, *pixels)
 
 
 def predictions(rng, residual, depth):
@@ -167,13 +166,16 @@ def cases():
             yield case(depth, plain + [v] * 4, lent=20, room=20)
 
 
+def renew(path, lines):
+    kept = [text for text in path.read_text().splitlines() if not text.startswith("lossless ")]
+    path.write_text("".join(f"{text}\n" for text in kept + lines))
+
+
 def main():
-    crate = sys.argv[1]
+    crate = pathlib.Path(__file__).parent.parent / "crates/known"
     made = list(cases())
-    with open(f"{crate}/stdin", "wb") as f:
-        f.write(b"".join(record(c) for c in made))
-    with open(f"{crate}/stdout", "w") as f:
-        f.write("".join(line(c) for c in made))
+    renew(crate / "stdin", [asked(c) for c in made])
+    renew(crate / "stdout", [line(c) for c in made])
     print(f"{len(made)} cases, {sum(refusal(c[4], c[1], c[2], c[0])[0] == 0 for c in made)} of them round trips")
 
 

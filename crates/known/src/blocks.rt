@@ -58,7 +58,7 @@ fn pixel(v: u64) -> u16 {
     (v % 65536) as u16
 }
 
-fn pixels(v: &[u64; 600], from: usize, dst: &mut [u16])
+pub fn pixels(v: &[u64; 600], from: usize, dst: &mut [u16])
     requires { ⌜ from + length (now dst) ≤ 600 ⌝ }
 {
     for i in 0..dst.len() {

@@ -1,5 +1,5 @@
-// Runs the calls that standard input lists, a line each: document 01's known results and those of the requests, and both sides of every number of the
-// table. Writes each line again, with number, place and mark of the answer and what the call left.
+// Runs the calls that standard input lists, a line each: document 01's known results and those of the requests, both sides of every number of the
+// table, and residuals for the lossless writer. Writes each line again, with number, place and mark of the answer and what the call left.
 ghost use Prim.Native.Nat.{_≤_};
 ghost use lib.ListN.{length};
 
@@ -8,6 +8,7 @@ mod line;
 mod narrow;
 mod passes;
 mod rows;
+mod writer;
 
 use line::numbers;
 
@@ -23,6 +24,7 @@ fn run(line: &[u8]) {
         b'0'..=b'9' => blocks::run(&v, at, false),
         b's' => blocks::run(&v, at, true),
         b'r' => rows::run(&v, false),
+        b'l' => writer::run(&v, at.count),
         b'n' => {
             if at.count == 5 {
                 rows::run(&v, true);
@@ -63,7 +65,7 @@ fn run_all(text: &[u8]) {
 }
 
 fn main() {
-    let mut text = [0u8; 65536];
+    let mut text = [0u8; 262144];
     let size = io::read_full(0, &mut text);
     run_all(&text[..size]);
 }

@@ -1,0 +1,55 @@
+// The lossless writer (E10): depth, residual, how many coefficients are lent, eob, sixteen pixels. Each coefficient is 77 before. If it has written,
+// the plain call of type 16 adds what it wrote to the pixels.
+use crate::blocks::pixels;
+use crate::blocks::seen;
+use crate::blocks::shown;
+use crate::line::int;
+use crate::line::ints;
+use lossless::Written;
+
+fn left(number: u64, place: u64, c: &[i32]) {
+    show::answer(number, place, false);
+    io::write_all(1, b" coefficients");
+    show::elements(c);
+}
+
+fn add(dst: &mut [u16], c: &mut [i32], eob: i32, depth: usize) {
+    let view = seen(0, 8, 4, 4);
+    let answer = itx::inv_txfm_add(&mut *dst, view, &mut *c, eob, 4, 4, levels::WHT_WHT, depth);
+    shown(answer);
+    show::block(&*dst, &*c);
+}
+
+fn round_trip(residual: &[i32], c: &mut [i32], dst: &mut [u16], eob: i32, depth: usize) {
+    match lossless::fwd_wht4x4(residual, &mut *c, depth) {
+        Written::Done => {
+            left(0, 0, &*c);
+            add(dst, c, eob, depth);
+        }
+        Written::NoDepth => left(3, 0, &*c),
+        Written::ShortBuffer => left(6, 0, &*c),
+        Written::OutOfBounds(i) => left(23, i as u64, &*c),
+    }
+}
+
+pub fn run(v: &[u64; 600], count: usize) {
+    if count < 19 {
+        return;
+    }
+    let n = count - 19;
+    if 20 < n {
+        return;
+    }
+    let m = v[count - 17] as usize;
+    if 20 < m {
+        return;
+    }
+    let mut residual = [0i32; 20];
+    let lent = &mut residual[..n];
+    ints(v, 2, &mut *lent);
+    let mut c = [77i32; 20];
+    let mut dst = [0u16; 16];
+    pixels(v, count - 15, &mut dst);
+    let eob = int(v[count - 16]);
+    round_trip(&*lent, &mut c[..m], &mut dst, eob, v[1] as usize);
+}
