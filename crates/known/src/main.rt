@@ -8,6 +8,7 @@ mod line;
 mod narrow;
 mod passes;
 mod rows;
+mod show;
 mod writer;
 
 use line::numbers;

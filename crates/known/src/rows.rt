@@ -2,6 +2,7 @@
 // plane, when the last pixel of the part was set by the other lookup.
 ghost use Prim.Native.Nat.{_<_};
 use crate::blocks::seen;
+use crate::show;
 use strided::View;
 
 fn set_last(part: &mut [u16], v: u16) {

@@ -5,6 +5,7 @@ use crate::blocks::seen;
 use crate::blocks::shown;
 use crate::line::int;
 use crate::line::ints;
+use crate::show;
 use lossless::Written;
 
 fn left(number: u64, place: u64, c: &[i32]) {

@@ -1,7 +1,7 @@
 // The parts of a line: a call's answer and what it left.
 use words::bits;
 
-pub fn number(name: &[u8], v: u64) {
+fn number(name: &[u8], v: u64) {
     io::write_all(1, name);
     io::print_decimal(1, v);
 }
@@ -67,11 +67,6 @@ pub fn narrow_block(dst: &[u8], c: &[i16]) {
     narrow_pixels(dst);
     io::write_all(1, b" coefficients");
     narrow_elements(c);
-}
-
-pub fn eob(eob: i32) {
-    io::write_all(1, b" eob");
-    signed(eob);
 }
 
 pub fn answer(code: u64, place: u64, is_marked: bool) {

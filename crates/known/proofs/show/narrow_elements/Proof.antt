@@ -1,12 +1,12 @@
--- `show::elements` is safe and ends.
+-- `known::show::narrow_elements` is safe and ends.
 use mathlib.Core.Path.{_≡_}
 use Prim.Native.Nat.{_-_}
 use lib.ListN.{length}
 use borrow.Author.Needs.{needs}
-use Rattle.show.proofs.elements.Statement.{statement}
-use Rattle.show.proofs.elements.Tie as tie
+use Rattle.known.proofs.show.narrow_elements.Statement.{statement}
+use Rattle.known.proofs.show.narrow_elements.Tie as tie
 
-pub elements-spec : {M : Type 1} → statement M
-elements-spec =
+pub narrow-elements-spec : {M : Type 1} → statement M
+narrow-elements-spec =
     tie.close (tie.spec (λ c i₀ i-end i. i-end ≡ length c) (λ c i₀ i-end i. i-end - i) (λ c. search needs) (λ c. search needs)
     (λ c. search needs) (λ c κs. search needs) (λ c. search needs) (λ c. search needs) (λ c. search needs) (λ c. search needs))

@@ -1,10 +1,10 @@
--- `show::pixels` is safe and ends.
+-- `known::show::pixels` is safe and ends.
 use mathlib.Core.Path.{_≡_}
 use Prim.Native.Nat.{_-_}
 use lib.ListN.{length}
 use borrow.Author.Needs.{needs}
-use Rattle.show.proofs.pixels.Statement.{statement}
-use Rattle.show.proofs.pixels.Tie as tie
+use Rattle.known.proofs.show.pixels.Statement.{statement}
+use Rattle.known.proofs.show.pixels.Tie as tie
 
 pub pixels-spec : {M : Type 1} → statement M
 pixels-spec =

@@ -1,10 +1,10 @@
--- `show::narrow_pixels` is safe and ends.
+-- `known::show::narrow_pixels` is safe and ends.
 use mathlib.Core.Path.{_≡_}
 use Prim.Native.Nat.{_-_}
 use lib.ListN.{length}
 use borrow.Author.Needs.{needs}
-use Rattle.show.proofs.narrow_pixels.Statement.{statement}
-use Rattle.show.proofs.narrow_pixels.Tie as tie
+use Rattle.known.proofs.show.narrow_pixels.Statement.{statement}
+use Rattle.known.proofs.show.narrow_pixels.Tie as tie
 
 pub narrow-pixels-spec : {M : Type 1} → statement M
 narrow-pixels-spec =

@@ -1,12 +1,12 @@
--- `show::short` is safe.
+-- `known::show::short` is safe.
 use mathlib.Core.Path.{subst⁻¹}
 use native.Mathlib.Omega.{arith}
 use mir.Syntax.{w16, w32}
 use mir.Val.{SFits}
 use mir.ValLaws.{toZ-ofZ}
 use borrow.Author.Needs.{needs}
-use Rattle.show.proofs.short.Statement.{statement}
-use Rattle.show.proofs.short.Tie as tie
+use Rattle.known.proofs.show.short.Statement.{statement}
+use Rattle.known.proofs.show.short.Tie as tie
 
 pub short-spec : {M : Type 1} → statement M
 short-spec =
