@@ -6,13 +6,6 @@ use crate::blocks::shown;
 use crate::line::int;
 use crate::line::ints;
 use crate::show;
-use lossless::Written;
-
-fn left(number: u64, place: u64, c: &[i32]) {
-    show::answer(number, place, false);
-    io::write_all(1, b" coefficients");
-    show::elements(c);
-}
 
 fn add(dst: &mut [u16], c: &mut [i32], eob: i32, depth: usize) {
     let view = seen(0, 8, 4, 4);
@@ -21,15 +14,14 @@ fn add(dst: &mut [u16], c: &mut [i32], eob: i32, depth: usize) {
     show::block(&*dst, &*c);
 }
 
+// By the call for C, whose word has the number of a refusal in its low byte and the place from bit 16 on.
 fn round_trip(residual: &[i32], c: &mut [i32], dst: &mut [u16], eob: i32, depth: usize) {
-    match lossless::fwd_wht4x4(residual, &mut *c, depth) {
-        Written::Done => {
-            left(0, 0, &*c);
-            add(dst, c, eob, depth);
-        }
-        Written::NoDepth => left(3, 0, &*c),
-        Written::ShortBuffer => left(6, 0, &*c),
-        Written::OutOfBounds(i) => left(23, i as u64, &*c),
+    let word = sgrifomel::sgrifomel_fwd_wht4x4(residual, &mut *c, depth);
+    show::answer(word % 256, word / 65536, false);
+    io::write_all(1, b" coefficients");
+    show::elements(&*c);
+    if word == 0 {
+        add(dst, c, eob, depth);
     }
 }
 
