@@ -17,7 +17,7 @@ use Rattle.whole.specs.Checks.{Check, accept, then, unless-at, Line, judged}
 use Rattle.bitdepth.specs.declared.Depth.{Depth}
 use Rattle.levels.specs.declared.Plan.{Plan}
 use Rattle.strided.specs.declared.Spot.{Spot}
-use Rattle.checks.specs.declared.Refusal.{Refusal}
+use Rattle.refusals.specs.declared.Refusal.{Refusal}
 use Rattle.checks.specs.declared.Verdict.{Verdict}
 use Rattle.checks.specs.declared.Verdict.the-variants.{Go, At, Stop}
 use Rattle.checks.specs.Inner.{verdict-of, Asked, Placed, Enough, Handed}

@@ -16,7 +16,7 @@ use Rattle.checks.specs.declared.Hint.{Hint}
 use Rattle.checks.specs.declared.Hint.the-variants.{Eob, LiveRows}
 use Rattle.checks.specs.declared.Verdict.{Verdict}
 use Rattle.checks.specs.declared.Verdict.the-variants.{Go, At, Stop}
-use Rattle.checks.specs.Refusals.{number, place}
+use Rattle.refusals.specs.Refusals.{number, place}
 
 -- which call announces so much
 abbrev pub call-of : Hint → Call

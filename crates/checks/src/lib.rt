@@ -9,9 +9,7 @@ ghost use Rattle.strided.specs.declared.Width.the-variants.{Wide};
 ghost use Rattle.strided.specs.Planes.{spot, lent};
 ghost use Rattle.whole.specs.Checks.{then, judged};
 ghost use Rattle.levels.specs.Plans as Plans;
-ghost use Rattle.levels.specs.Manners.{is-adst};
 ghost use Rattle.checks.specs.Table as Table;
-ghost use Rattle.checks.specs.Refusals as Refusals;
 ghost use Rattle.checks.specs.Table.{block};
 ghost use Rattle.checks.specs.Inner.{call-of, verdict-of, Asked, Lies, Looks, Enough, RowsIn, Handed, Copied, adst-planned};
 use above::first_above;
@@ -26,64 +24,12 @@ use intops::Found;
 use levels::Decision;
 use levels::Kind;
 use levels::Plan;
+use levels::is_adst;
+use refusals::Refusal;
 use strided::Spot;
 use strided::SpotCheck;
 use strided::View;
 use strided::Width;
-
-// Document 01, "Numbers of refusal", 1 to 10, 20 of request E5 and 21 of E6, in the order of the checks.
-pub enum Refusal {
-    NoSize,
-    NoType,
-    NoDepth,
-    NegativeEob,
-    NoSuchRows,
-    FewCoefficients,
-    NotVisible,
-    BadStride,
-    RowOutside,
-    OutOfRange(usize),
-    Stray(usize),
-    AboveMaximum(usize),
-}
-
-pub fn number_of(refusal: Refusal) -> u8
-    ensures { λ r. ⌜ r ≡ Refusals.number refusal ⌝ }
-{
-    match refusal {
-        Refusal::NoSize => 1,
-        Refusal::NoType => 2,
-        Refusal::NoDepth => 3,
-        Refusal::NegativeEob => 4,
-        Refusal::NoSuchRows => 5,
-        Refusal::FewCoefficients => 6,
-        Refusal::NotVisible => 20,
-        Refusal::BadStride => 7,
-        Refusal::RowOutside => 8,
-        Refusal::OutOfRange(_) => 9,
-        Refusal::Stray(_) => 10,
-        Refusal::AboveMaximum(_) => 21,
-    }
-}
-
-pub fn place_of(refusal: Refusal) -> usize
-    ensures { λ r. ⌜ r ≡ Refusals.place refusal ⌝ }
-{
-    match refusal {
-        Refusal::NoSize => 0,
-        Refusal::NoType => 0,
-        Refusal::NoDepth => 0,
-        Refusal::NegativeEob => 0,
-        Refusal::NoSuchRows => 0,
-        Refusal::FewCoefficients => 0,
-        Refusal::NotVisible => 0,
-        Refusal::BadStride => 0,
-        Refusal::RowOutside => 0,
-        Refusal::OutOfRange(i) => i,
-        Refusal::Stray(i) => i,
-        Refusal::AboveMaximum(i) => i,
-    }
-}
 
 // What a call tells of its coefficients: the plain call an eob, the live-row call how many rows are live.
 pub enum Hint {
@@ -350,18 +296,6 @@ pub fn check_stray_8bpc(before: Verdict, c: &mut [i32], coeff: &[i16], hint: Hin
     }
     widen(&mut *c, coeff, plan.w * plan.h);
     check_stray(before, &*c, hint)
-}
-
-fn is_adst(kind: Kind) -> bool
-    ensures { λ r. ⌜ r ≡ is-adst kind ⌝ }
-{
-    match kind {
-        Kind::Dct => false,
-        Kind::Identity => false,
-        Kind::Wht => false,
-        Kind::Adst => true,
-        Kind::FlipAdst => true,
-    }
 }
 
 // The type is one that the second engine refuses.

@@ -8,10 +8,10 @@ use lib.IntN.{ℤ}
 use Rattle.whole.specs.Answers as Answers
 use Rattle.itx.specs.declared.Answer.{Answer}
 use Rattle.itx.specs.declared.Answer.the-variants.{Done, Refused}
-use Rattle.checks.specs.declared.Refusal.{Refusal}
-use Rattle.checks.specs.declared.Refusal.the-variants.{NoSize, NoType, NoDepth, NegativeEob, NoSuchRows, FewCoefficients, NotVisible, BadStride}
-use Rattle.checks.specs.declared.Refusal.the-variants.{RowOutside, OutOfRange, Stray, AboveMaximum}
-use Rattle.checks.specs.Refusals.{number, place}
+use Rattle.refusals.specs.declared.Refusal.{Refusal}
+use Rattle.refusals.specs.declared.Refusal.the-variants.{NoSize, NoType, NoDepth, NegativeEob, NoSuchRows, FewCoefficients, NotVisible, BadStride}
+use Rattle.refusals.specs.declared.Refusal.the-variants.{RowOutside, OutOfRange, Stray, AboveMaximum}
+use Rattle.refusals.specs.Refusals.{number, place}
 use Rattle.itx.specs.Answers.{answer-of}
 use Rattle.itx.specs.Calls.{Outcome, Meets}
 

@@ -35,11 +35,11 @@ use Rattle.scaling.specs.Scaling.{shortcut}
 use Rattle.steps.specs.Blocks.{way-by, residual}
 use Rattle.steps.specs.Inner.{Sized}
 use Rattle.bitdepth.proofs.Ends.{row-reach, size}
-use Rattle.checks.specs.declared.Refusal.{Refusal}
+use Rattle.refusals.specs.declared.Refusal.{Refusal}
 use Rattle.checks.specs.Table.{Block, Call, plain, live, verdict, short, live-rows}
 use Rattle.itx.specs.Calls.{Outcome, Meets, outcome-of, by-shortcut, by-passes}
 use Rattle.checks.specs.Accepted.{Accepted}
-use Rattle.checks.specs.Refusals.{number, place}
+use Rattle.refusals.specs.Refusals.{number, place}
 use Rattle.ways.specs.Inner.{added, Ready, Suits, Passed, Shortened}
 use Rattle.itx.specs.Inner.{left}
 use Rattle.itx.proofs.LiveRows.{rows-all}

@@ -18,8 +18,8 @@ use checks::check_range_8bpc;
 use checks::check_stray_8bpc;
 use checks::has_adst;
 use checks::is_short;
-use checks::number_of;
-use checks::place_of;
+use refusals::number_of;
+use refusals::place_of;
 use residual::Engine;
 use strided::View;
 use strided::Width;
@@ -30,7 +30,7 @@ use ways::by_shortcut_8bpc;
 use ways::rows_to_pass;
 
 // The refusals of the calls.
-pub use checks::Refusal;
+pub use refusals::Refusal;
 
 // What a call answers: it is done, with the mark, or nothing was changed.
 pub enum Answer {

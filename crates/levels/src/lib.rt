@@ -2,6 +2,7 @@
 ghost use mathlib.Core.Path.{_≡_};
 ghost use Prim.Native.Nat.{_≤_};
 ghost use Rattle.levels.specs.Plans.{shift-of, small, only-4x4, kinds-at, kinds-of, plan, decision-of};
+ghost use Rattle.levels.specs.Manners.{is-adst};
 ghost use Rattle.levels.specs.Inner.{shift-check, kinds-check};
 
 // What a pass does to a line of a block (document 01, "Sizes, types, depths").
@@ -175,5 +176,18 @@ impl Plan {
             rows,
             columns,
         })
+    }
+}
+
+// The kinds that the second engine does not have (E9).
+pub fn is_adst(kind: Kind) -> bool
+    ensures { λ r. ⌜ r ≡ is-adst kind ⌝ }
+{
+    match kind {
+        Kind::Dct => false,
+        Kind::Identity => false,
+        Kind::Wht => false,
+        Kind::Adst => true,
+        Kind::FlipAdst => true,
     }
 }

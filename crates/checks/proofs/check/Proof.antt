@@ -11,7 +11,7 @@ use Rattle.levels.specs.declared.Plan.{Plan}
 use Rattle.levels.specs.Plans.{plan}
 use Rattle.checks.specs.Table.{lengths-lines, range-line, stray-line, pixel-line, with-depth}
 use Rattle.checks.specs.Inner.{call-of, Lies, Looks, Enough, RowsIn}
-use Rattle.checks.specs.declared.Refusal.{Refusal}
+use Rattle.refusals.specs.declared.Refusal.{Refusal}
 use Rattle.checks.specs.declared.Verdict.{Verdict}
 use Rattle.checks.specs.declared.Verdict.the-variants.{Stop}
 use Rattle.checks.proofs.Opening.{handed-on}

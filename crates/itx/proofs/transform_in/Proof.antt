@@ -15,7 +15,7 @@ use Rattle.levels.specs.Plans.{plan}
 use Rattle.strided.specs.declared.Width.the-variants.{Narrow}
 use Rattle.strided.specs.Planes.{spot, lent-8}
 use Rattle.steps.specs.declared.Engine.the-variants.{First}
-use Rattle.checks.specs.declared.Refusal.{Refusal}
+use Rattle.refusals.specs.declared.Refusal.{Refusal}
 use Rattle.checks.specs.declared.Verdict.{Verdict}
 use Rattle.checks.specs.declared.Verdict.the-variants.{Stop}
 use Rattle.checks.specs.Table.{Block, Call, lengths-lines, range-line, stray-line, pixel-line, with-depth, short, verdict, block}
