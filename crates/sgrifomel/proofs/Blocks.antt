@@ -31,7 +31,8 @@ use Rattle.itx.specs.Av1.{av1-way}
 use Rattle.itx.specs.Spec.{spec-outcome}
 use Rattle.checks.proofs.Verdicts.{by-plan, planned-at}
 use Rattle.steps.specs.Blocks.{Way, way}
-use Rattle.sgrifomel.specs.Words.{packed, view, PacksBlock}
+use Rattle.packing.specs.Packed.{packed}
+use Rattle.sgrifomel.specs.Words.{view, PacksBlock}
 use Rattle.bitdepth.proofs.Cases.{by-depth}
 use Rattle.whole.proofs.Clips.{by-test}
 use Rattle.sgrifomel.proofs.Places.{first-below, Place}

@@ -20,7 +20,8 @@ use Rattle.passes.specs.Passes.{Passed, pass, lower}
 use Rattle.whole.specs.Answers.{Answer, Outcome, outcome-of}
 use Rattle.pass_checks.specs.Checks.{answer-of, bad-range, checks}
 use Rattle.itx_1d.specs.Calls.{accepted, judged, ranged, halved, unranged, Meets}
-use Rattle.sgrifomel.specs.Words.{packed, Packs}
+use Rattle.packing.specs.Packed.{packed}
+use Rattle.sgrifomel.specs.Words.{Packs}
 use Rattle.whole.proofs.Checks.{Refusing, refusing-unless, refusing-at}
 
 -- what is found is one of the n

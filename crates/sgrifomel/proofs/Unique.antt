@@ -7,7 +7,8 @@ use native.Mathlib.Omega.{arith}
 use lib.IntN.{ℤ}
 use Rattle.whole.specs.Answers.{Answer, Outcome}
 use Rattle.itx.specs.Calls as Blocks
-use Rattle.sgrifomel.specs.Words.{packed, Packs, PacksBlock}
+use Rattle.packing.specs.Packed.{packed}
+use Rattle.sgrifomel.specs.Words.{Packs, PacksBlock}
 
 pub one-word : {o : Outcome} {r r′ : ℕ} {c c′ : List ℤ} → Packs o r c → Packs o r′ c′ → (r ≡ r′) × (c ≡ c′)
 one-word p p′ = (p .answer ∙ sym (p′ .answer), p .elements ∙ sym (p′ .elements))

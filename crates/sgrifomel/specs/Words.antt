@@ -1,18 +1,14 @@
--- An answer as C gets it: one word, as include/sgrifomel.h says.
+-- What C hands in, and what it gets.
 use mathlib.Core.Path.{_≡_}
-use mathlib.Core.Bool.{cond}
 use mathlib.Core.List.{List}
-use Prim.Native.Nat.{ℕ, _+_, _*_}
+use Prim.Native.Nat.{ℕ}
 use lib.IntN.{ℤ}
 use Rattle.strided.specs.Planes.{lent, lent-8}
 use Rattle.strided.specs.declared.View.{View}
-use Rattle.whole.specs.Answers.{Answer, Outcome}
+use Rattle.whole.specs.Answers.{Outcome}
 use Rattle.itx.specs.Calls as Blocks
 use Rattle.checks.specs.Table.{Block, block}
-
--- the number in bits 0 to 7, the mark in bit 8, the place from bit 16 up
-abbrev pub packed : Answer → ℕ
-packed a = a .number + 256 * cond (a .mark) 1 0 + 65536 * a .place
+use Rattle.packing.specs.Packed.{packed}
 
 -- where a block lies, by C's numbers
 abbrev pub view : ℕ → ℤ → ℕ → ℕ → View

@@ -1,43 +1,18 @@
 // The public calls for C (include/sgrifomel.h): each answers one word.
 ghost use mathlib.Core.Path.{_≡_};
-ghost use mathlib.Core.Bool.{cond};
-ghost use Prim.Native.Nat.{_*_, _≤_, _<_};
 ghost use Rattle.levels.specs.Sides.{of4, of8, of16, of32};
 ghost use Rattle.itx_1d.specs.Calls as Calls;
-ghost use Rattle.pass_checks.specs.Checks as Checks;
 ghost use Rattle.levels.specs.declared.Kind.the-variants.{Dct, Identity, Adst, FlipAdst};
 ghost use Rattle.itx.specs.Calls as Blocks;
 ghost use Rattle.checks.specs.Table.{plain, live};
 ghost use Rattle.itx.specs.Spec.{spec-outcome};
-ghost use Rattle.itx.specs.Answers as Answers;
-ghost use Rattle.sgrifomel.specs.Words.{packed, view, wide, narrow, Packs, Leaves};
+ghost use Rattle.sgrifomel.specs.Words.{view, wide, narrow, Packs, Leaves};
 ghost use Rattle.lossless.specs.Writes as Writes;
-use itx::Answer;
-use itx_1d::Pass;
-use lossless::Written;
+use packing::pack;
+use packing::pack_answer;
+use packing::pack_written;
 use strided::ByteStride;
 use strided::View;
-
-// The mark as bit 8.
-fn bit(mark: bool) -> u64
-    ensures { λ r. ⌜ (r ≡ 256 * cond mark 1 0) × (r ≤ 256) ⌝ }
-{
-    if mark { 256 } else { 0 }
-}
-
-// No call has a place past the 1,024 numbers of a block, so a word holds it.
-fn pack(pass: Pass) -> u64
-    requires { ⌜ Checks.answer-of pass .place < 1024 ⌝ }
-    ensures { λ r. ⌜ r ≡ packed (Checks.answer-of pass) ⌝ }
-{
-    match pass {
-        Pass::Done(mark) => bit(mark),
-        Pass::Range => 11,
-        Pass::Stride => 12,
-        Pass::Short => 13,
-        Pass::Element(i) => 14 + 65536 * (i as u64),
-    }
-}
 
 #[no_mangle]
 pub extern "C" fn sgrifomel_inv_dct4_1d(c: &mut [i32], stride: usize, min: i32, max: i32) -> u64
@@ -189,15 +164,6 @@ pub extern "C" fn sgrifomel_inv_wht4_1d(c: &mut [i32], stride: usize) -> u64
     pack(itx_1d::inv_wht4_1d(c, stride))
 }
 
-// Of a block call: what `itx` says of its answer.
-fn pack_answer(answer: Answer) -> u64
-    requires { ⌜ Answers.answer-of answer .place < 1024 ⌝ }
-    ensures { λ r. ⌜ r ≡ packed (Answers.answer-of answer) ⌝ }
-{
-    let mark = bit(itx::mark(answer));
-    itx::number(answer) as u64 + mark + 65536 * (itx::place(answer) as u64)
-}
-
 // Where a block lies, by C's numbers.
 fn view_of(offset: u32, stride: i32, columns: usize, rows: usize) -> View
     ensures { λ r. ⌜ r ≡ view offset stride columns rows ⌝ }
@@ -332,18 +298,6 @@ pub extern "C" fn sgrifomel_spec_inv_txfm_add_live(
 {
     let view = view_of(offset, stride, columns, rows);
     pack_answer(itx::spec_inv_txfm_add_live(dst, view, coeff, r, w, h, txtp, depth))
-}
-
-fn pack_written(written: Written) -> u64
-    requires { ⌜ Writes.answer-of written .place < 1024 ⌝ }
-    ensures { λ r. ⌜ r ≡ packed (Writes.answer-of written) ⌝ }
-{
-    match written {
-        Written::Done => 0,
-        Written::NoDepth => 3,
-        Written::ShortBuffer => 6,
-        Written::OutOfBounds(i) => 23 + 65536 * (i as u64),
-    }
 }
 
 #[no_mangle]

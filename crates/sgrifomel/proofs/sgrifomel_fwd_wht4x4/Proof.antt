@@ -1,7 +1,7 @@
 -- `sgrifomel::sgrifomel_fwd_wht4x4` meets its contract.
 use mathlib.Core.Path.{ap, _∙_}
 use borrow.Author.Needs.{needs}
-use Rattle.sgrifomel.specs.Words.{packed}
+use Rattle.packing.specs.Packed.{packed}
 use Rattle.sgrifomel.proofs.Places.{packable}
 use Rattle.sgrifomel.proofs.Residuals.{small-written}
 use Rattle.sgrifomel.proofs.sgrifomel_fwd_wht4x4.Statement.{statement}

@@ -1,13 +1,13 @@
--- `sgrifomel::pack_written` meets its contract.
+-- `packing::pack_written` meets its contract.
 use mathlib.Core.Path.{sym, ap, subst}
 use Prim.Native.Nat.{ℕ, _<_}
 use native.Mathlib.Omega.{arith}
 use borrow.Author.Needs.{needs}
 use Rattle.lossless.specs.declared.Written.{Written}
 use Rattle.lossless.specs.Writes.{answer-of}
-use Rattle.sgrifomel.specs.Words.{packed}
-use Rattle.sgrifomel.proofs.pack_written.Statement.{statement}
-use Rattle.sgrifomel.proofs.pack_written.Tie as tie
+use Rattle.packing.specs.Packed.{packed}
+use Rattle.packing.proofs.pack_written.Statement.{statement}
+use Rattle.packing.proofs.pack_written.Tie as tie
 
 abbrev word : Written → ℕ
 word w = packed (answer-of w)

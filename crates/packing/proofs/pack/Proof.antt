@@ -1,4 +1,4 @@
--- `sgrifomel::pack` meets its contract.
+-- `packing::pack` meets its contract.
 use mathlib.Core.Path.{_≡_, refl, sym, ap, _∙_, subst}
 use mathlib.Core.Bool.{Bool, true, false, cond}
 use Prim.Native.Nat.{ℕ, _*_, _<_}
@@ -7,9 +7,9 @@ use borrow.Author.Needs.{needs}
 use Rattle.pass_checks.specs.declared.Pass.{Pass}
 use Rattle.pass_checks.specs.declared.Pass.the-variants.{Done}
 use Rattle.pass_checks.specs.Checks.{answer-of}
-use Rattle.sgrifomel.specs.Words.{packed}
-use Rattle.sgrifomel.proofs.pack.Statement.{statement}
-use Rattle.sgrifomel.proofs.pack.Tie as tie
+use Rattle.packing.specs.Packed.{packed}
+use Rattle.packing.proofs.pack.Statement.{statement}
+use Rattle.packing.proofs.pack.Tie as tie
 
 abbrev word : Pass → ℕ
 word p = packed (answer-of p)

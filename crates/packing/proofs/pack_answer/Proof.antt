@@ -1,11 +1,11 @@
--- `sgrifomel::pack_answer` meets its contract.
+-- `packing::pack_answer` meets its contract.
 use mathlib.Core.Path.{sym, ap, _∙_, subst}
 use mathlib.Core.Bool.{Bool, cond}
 use Prim.Native.Nat.{ℕ, _+_, _*_, _<_}
 use native.Mathlib.Omega.{arith}
 use borrow.Author.Needs.{needs}
-use Rattle.sgrifomel.proofs.pack_answer.Statement.{statement}
-use Rattle.sgrifomel.proofs.pack_answer.Tie as tie
+use Rattle.packing.proofs.pack_answer.Statement.{statement}
+use Rattle.packing.proofs.pack_answer.Tie as tie
 
 -- the place is small
 small : (c : tie.After-place) → c .place .result < 1024
