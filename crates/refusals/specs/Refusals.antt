@@ -1,8 +1,8 @@
 -- Which number and place a refusal carries.
 use Prim.Native.Nat.{ℕ}
 use Rattle.refusals.specs.declared.Refusal.{Refusal}
-use Rattle.refusals.specs.declared.Refusal.the-variants.{NoSize, NoType, NoDepth, NegativeEob, NoSuchRows, FewCoefficients, NotVisible, BadStride}
-use Rattle.refusals.specs.declared.Refusal.the-variants.{RowOutside, OutOfRange, Stray, AboveMaximum}
+use Rattle.refusals.specs.declared.Refusal.the-variants.{NoSize, NoType, NoDepth, NegativeEob, NoSuchRows, FewCoefficients}
+use Rattle.refusals.specs.declared.Refusal.the-variants.{NotVisible, BadStride, RowOutside, OutOfRange, Stray, AboveMaximum}
 
 -- the table of "Numbers of refusal": the number, and the place: "9 and 10 carry the place of the first offender .. others carry 0"; so does
 -- 21 (E6)
