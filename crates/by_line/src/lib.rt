@@ -1,4 +1,4 @@
-// Steps 3 and 5 line by line, as the loops of src/itx.rs.
+// Steps 1 to 3, and step 5, line by line by either engine, as the loops of src/itx.rs.
 ghost use Prim.Native.Nat.{_+_, _*_};
 ghost use lib.IntN.{natAbs};
 ghost use Rattle.levels.specs.Sides.{side};

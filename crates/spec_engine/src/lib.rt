@@ -341,7 +341,7 @@ fn dct(t: &mut [i32; 32], n: usize)
 
 // ---- 7.13.2.10: inverse Walsh-Hadamard transform process
 
-// With shift 0. The shift of 2 on rows is done as the coefficients are taken in (`enter` in crates/residual).
+// With shift 0. The shift of 2 on rows is done as the coefficients are taken in (`enter` in crates/scaling).
 fn wht(t: &mut [i32; 32])
     requires { ⌜ Arrays.Held 16777216 (now t) ⌝ }
     ensures { λ _. ⌜ Arrays.Begins 4 (Av1.av1-wht (now (t .entry))) (now (t .exit)) ⌝ }
