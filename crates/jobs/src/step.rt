@@ -37,104 +37,89 @@ use task::refuse;
 pub use task::Job;
 pub use task::Turn;
 
-// The first number.
-fn begin(
-    job: Job,
-    input: &[u8],
-    at: usize,
-    is_last: bool,
-    output: &mut [u8],
+// Where a step stands: before number `record` of a file of this version, `next` being the place of what comes next in the input, `put` and `told`
+// the places where it writes.
+struct At {
+    version: u32,
+    record: u64,
+    next: usize,
     put: usize,
-    error: &mut [u8],
     told: usize,
-) -> Turn
-    requires { ⌜ Roomy (now output) put (now error) told ⌝ }
-    ensures { λ r. ⌜ ((sums : List ℕ) → StepAt job outset (now (input .entry)) at «is_last» sums sums
-        (io (now (output .entry)) put (now (error .entry)) told (now (output .exit)) (now (error .exit)) r)) ⌝ }
+}
+
+// The first number.
+fn begin(job: Job, at: At, input: &[u8], is_last: bool, output: &mut [u8], error: &mut [u8]) -> Turn
+    requires { ⌜ Roomy (now output) (at .put) (now error) (at .told) ⌝ }
+    ensures { λ r. ⌜ ((sums : List ℕ) → StepAt job outset (now (input .entry)) (at .next) «is_last» sums sums
+        (io (now (output .entry)) (at .put) (now (error .entry)) (at .told) (now (output .exit)) (now (error .exit)) r)) ⌝ }
 {
-    let first = read_number(input, at);
+    let first = read_number(input, at.next);
     let Number::Got { value, next } = first else {
-        return fallen(
-            job,
-            numbers::refusal(first),
-            is_last,
-            0,
-            output,
-            put,
-            error,
-            told,
-        );
+        let k = numbers::refusal(first);
+        return fallen(job, k, is_last, 0, output, at.put, error, at.told);
     };
     if !is_known(value) {
-        return refuse(job, 0, 18, output, put, error, told);
+        return refuse(job, 0, 18, output, at.put, error, at.told);
     }
-    let mut end = put;
+    let mut end = at.put;
     if !is_totals(job) {
-        end = write_number(output, put, value);
+        end = write_number(output, at.put, value);
     }
     Turn::Wrote {
         version: value,
         next,
         put: end,
-        told,
+        told: at.told,
     }
 }
 
-// Does the block and writes it; `next` is the place after what was read of it.
+// Does the block and writes it; what was read of it stands before `next`.
 fn call_block(
-    version: u32,
-    record: u64,
+    at: At,
     head: Head,
-    next: usize,
-    coefficients: &mut [i32],
+    coeff: &mut [i32],
     pixels: &mut [u16],
     output: &mut [u8],
-    put: usize,
     error: &mut [u8],
-    told: usize,
 ) -> Turn
-    requires { ⌜ Whole version head (now coefficients) (now pixels) × Roomy (now output) put (now error) told ⌝ }
-    ensures { λ r. ⌜ ((sums : List ℕ) → DoneAt Job.Blocks version «record»
-        (block-of head (now (coefficients .entry)) (now (pixels .entry))) next sums sums
-        (io (now (output .entry)) put (now (error .entry)) told (now (output .exit)) (now (error .exit)) r)) ⌝ }
+    requires { ⌜ Whole (at .version) head (now coeff) (now pixels) × Roomy (now output) (at .put) (now error) (at .told) ⌝ }
+    ensures { λ r. ⌜ ((sums : List ℕ) → DoneAt Job.Blocks (at .version) (at .«record»)
+        (block-of head (now (coeff .entry)) (now (pixels .entry))) (at .next) sums sums
+        (io (now (output .entry)) (at .put) (now (error .entry)) (at .told) (now (output .exit)) (now (error .exit)) r)) ⌝ }
 {
-    let answer = act(version, head, coefficients, pixels);
-    let refusal = itx::number(answer);
-    if refusal != 0 {
-        return refuse(Job::Blocks, record, refusal, output, put, error, told);
+    let answer = act(at.version, head, coeff, pixels);
+    let k = itx::number(answer);
+    if k != 0 {
+        return refuse(Job::Blocks, at.record, k, output, at.put, error, at.told);
     }
-    let end = write_record(output, put, head, coefficients, pixels);
+    let end = write_record(output, at.put, head, coeff, pixels);
     Turn::Wrote {
-        version,
-        next,
+        version: at.version,
+        next: at.next,
         put: end,
-        told,
+        told: at.told,
     }
 }
 
 // Moves the block's coefficients into their range, tells of each, and writes the block.
 fn mend_block(
-    version: u32,
-    record: u64,
+    at: At,
     head: Head,
-    next: usize,
-    coefficients: &mut [i32],
+    coeff: &mut [i32],
     pixels: &[u16],
     output: &mut [u8],
-    put: usize,
     error: &mut [u8],
-    told: usize,
 ) -> Turn
-    requires { ⌜ Whole version head (now coefficients) (now pixels) × Roomy (now output) put (now error) told ⌝ }
-    ensures { λ r. ⌜ ((sums : List ℕ) → DoneAt Job.Salvage version «record»
-        (block-of head (now (coefficients .entry)) (now (pixels .entry))) next sums sums
-        (io (now (output .entry)) put (now (error .entry)) told (now (output .exit)) (now (error .exit)) r)) ⌝ }
+    requires { ⌜ Whole (at .version) head (now coeff) (now pixels) × Roomy (now output) (at .put) (now error) (at .told) ⌝ }
+    ensures { λ r. ⌜ ((sums : List ℕ) → DoneAt Job.Salvage (at .version) (at .«record»)
+        (block-of head (now (coeff .entry)) (now (pixels .entry))) (at .next) sums sums
+        (io (now (output .entry)) (at .put) (now (error .entry)) (at .told) (now (output .exit)) (now (error .exit)) r)) ⌝ }
 {
-    let last = salvage(head, record, coefficients, error, told);
-    let end = write_record(output, put, head, coefficients, pixels);
+    let last = salvage(head, at.record, coeff, error, at.told);
+    let end = write_record(output, at.put, head, coeff, pixels);
     Turn::Wrote {
-        version,
-        next,
+        version: at.version,
+        next: at.next,
         put: end,
         told: last,
     }
@@ -143,103 +128,63 @@ fn mend_block(
 // Does the block and counts it.
 fn count_block(
     most: u32,
-    version: u32,
-    record: u64,
+    at: At,
     head: Head,
-    next: usize,
-    coefficients: &mut [i32],
+    coeff: &mut [i32],
     pixels: &mut [u16],
     before: &mut [u16],
     sums: &mut [u64],
     output: &mut [u8],
-    put: usize,
     error: &mut [u8],
-    told: usize,
 ) -> Turn
-    requires { ⌜ Whole version head (now coefficients) (now pixels)
-        × (Sane (now sums) × ((length (now pixels) ≡ length (now before)) × Roomy (now output) put (now error) told)) ⌝ }
-    ensures { λ r. ⌜ DoneAt (Job.Totals most) version «record»
-        (block-of head (now (coefficients .entry)) (now (pixels .entry))) next (now (sums .entry)) (now (sums .exit))
-        (io (now (output .entry)) put (now (error .entry)) told (now (output .exit)) (now (error .exit)) r) ⌝ }
+    requires { ⌜ Whole (at .version) head (now coeff) (now pixels)
+        × (Sane (now sums) × ((length (now pixels) ≡ length (now before)) × Roomy (now output) (at .put) (now error) (at .told))) ⌝ }
+    ensures { λ r. ⌜ DoneAt (Job.Totals most) (at .version) (at .«record»)
+        (block-of head (now (coeff .entry)) (now (pixels .entry))) (at .next) (now (sums .entry)) (now (sums .exit))
+        (io (now (output .entry)) (at .put) (now (error .entry)) (at .told) (now (output .exit)) (now (error .exit)) r) ⌝ }
 {
     keep(&*pixels, &mut *before);
-    let answer = act(version, head, coefficients, &mut *pixels);
-    let refusal = itx::number(answer);
-    if refusal != 0 {
-        return refuse(Job::Totals(most), record, refusal, output, put, error, told);
+    let answer = act(at.version, head, coeff, &mut *pixels);
+    let k = itx::number(answer);
+    if k != 0 {
+        let job = Job::Totals(most);
+        return refuse(job, at.record, k, output, at.put, error, at.told);
     }
     let mark = itx::mark(answer);
     add(sums, head, mark, before, pixels);
     Turn::Wrote {
-        version,
-        next,
-        put,
-        told,
+        version: at.version,
+        next: at.next,
+        put: at.put,
+        told: at.told,
     }
 }
 
 // What the job does with the block.
 fn do_block(
     job: Job,
-    version: u32,
-    record: u64,
+    at: At,
     head: Head,
-    next: usize,
-    coefficients: &mut [i32],
+    coeff: &mut [i32],
     pixels: &mut [u16],
     sums: &mut [u64],
     output: &mut [u8],
-    put: usize,
     error: &mut [u8],
-    told: usize,
 ) -> Turn
-    requires { ⌜ Whole version head (now coefficients) (now pixels) × ((sane-for job (now sums) ≡ true) × Roomy (now output) put (now error) told) ⌝ }
-    ensures { λ r. ⌜ DoneAt job version «record» (block-of head (now (coefficients .entry)) (now (pixels .entry))) next
-        (now (sums .entry)) (now (sums .exit)) (io (now (output .entry)) put (now (error .entry)) told (now (output .exit)) (now (error .exit)) r) ⌝ }
+    requires { ⌜ Whole (at .version) head (now coeff) (now pixels)
+        × ((sane-for job (now sums) ≡ true) × Roomy (now output) (at .put) (now error) (at .told)) ⌝ }
+    ensures { λ r. ⌜ DoneAt job (at .version) (at .«record») (block-of head (now (coeff .entry)) (now (pixels .entry))) (at .next)
+        (now (sums .entry)) (now (sums .exit))
+        (io (now (output .entry)) (at .put) (now (error .entry)) (at .told) (now (output .exit)) (now (error .exit)) r) ⌝ }
 {
     match job {
-        Job::Blocks => call_block(
-            version,
-            record,
-            head,
-            next,
-            coefficients,
-            pixels,
-            output,
-            put,
-            error,
-            told,
-        ),
-        Job::Salvage => mend_block(
-            version,
-            record,
-            head,
-            next,
-            coefficients,
-            &*pixels,
-            output,
-            put,
-            error,
-            told,
-        ),
+        Job::Blocks => call_block(at, head, coeff, pixels, output, error),
+        Job::Salvage => mend_block(at, head, coeff, &*pixels, output, error),
         Job::Totals(most) => {
             let mut before = [0u16; 1024];
             let n = pixels.len();
-            count_block(
-                most,
-                version,
-                record,
-                head,
-                next,
-                coefficients,
-                pixels,
-                &mut before[..n],
-                sums,
-                output,
-                put,
-                error,
-                told,
-            )
+            let room = &mut before[..n];
+            count_block(most, at, head, coeff, pixels, room, sums, output, error)
         }
     }
 }
@@ -247,60 +192,47 @@ fn do_block(
 // A record.
 fn go_on(
     job: Job,
-    version: u32,
-    record: u64,
+    at: At,
     input: &[u8],
-    at: usize,
     is_last: bool,
     sums: &mut [u64],
     output: &mut [u8],
-    put: usize,
     error: &mut [u8],
-    told: usize,
 ) -> Turn
-    requires { ⌜ (sane-for job (now sums) ≡ true) × Roomy (now output) put (now error) told ⌝ }
-    ensures { λ r. ⌜ ((m : Mind job) → StepAt job (before version «record» m) (now (input .entry)) at «is_last»
+    requires { ⌜ (sane-for job (now sums) ≡ true) × Roomy (now output) (at .put) (now error) (at .told) ⌝ }
+    ensures { λ r. ⌜ ((m : Mind job) → StepAt job (before (at .version) (at .«record») m) (now (input .entry)) (at .next) «is_last»
         (now (sums .entry)) (now (sums .exit))
-        (io (now (output .entry)) put (now (error .entry)) told (now (output .exit)) (now (error .exit)) r)) ⌝ }
+        (io (now (output .entry)) (at .put) (now (error .entry)) (at .told) (now (output .exit)) (now (error .exit)) r)) ⌝ }
 {
-    if at < input.len() {
-        if is_past(job, record) {
-            return refuse(job, record, 22, output, put, error, told);
+    if at.next < input.len() {
+        if is_past(job, at.record) {
+            return refuse(job, at.record, 22, output, at.put, error, at.told);
         }
     }
-    let mut coefficients = [0i32; 1024];
+    let mut coeff = [0i32; 1024];
     let mut pixels = [0u16; 1024];
-    let found = read_record(input, at, version, &mut coefficients, &mut pixels);
+    let found = read_record(input, at.next, at.version, &mut coeff, &mut pixels);
     match found {
         Found::Record { head, next } => {
             let w = head.w;
             let h = head.h;
             let z = head.announced;
-            let m = coefficient_count(version, w, h, z) as usize;
+            let m = coefficient_count(at.version, w, h, z) as usize;
             let n = (w * h) as usize;
-            do_block(
-                job,
-                version,
-                record,
-                head,
-                next,
-                &mut coefficients[..m],
-                &mut pixels[..n],
-                sums,
-                output,
-                put,
-                error,
-                told,
-            )
+            let mut after = at;
+            after.next = next;
+            let c = &mut coeff[..m];
+            let p = &mut pixels[..n];
+            do_block(job, after, head, c, p, sums, output, error)
         }
         // No byte is left: the file ends only if none can follow.
         Found::End => {
             if is_last {
-                return finish(job, &*sums, output, put, &*error, told);
+                return finish(job, &*sums, output, at.put, &*error, at.told);
             }
             Turn::More
         }
-        Found::Refused(k) => fallen(job, k, is_last, record, output, put, error, told),
+        Found::Refused(k) => fallen(job, k, is_last, at.record, output, at.put, error, at.told),
     }
 }
 
@@ -353,20 +285,15 @@ pub fn step(
     if !has_room(error.len(), told, 47104) {
         return Turn::Full;
     }
-    if record == 0 {
-        return begin(job, input, at, is_last, output, put, error, told);
-    }
-    go_on(
-        job,
+    let here = At {
         version,
         record,
-        input,
-        at,
-        is_last,
-        sums,
-        output,
+        next: at,
         put,
-        error,
         told,
-    )
+    };
+    if record == 0 {
+        return begin(job, here, input, is_last, output, error);
+    }
+    go_on(job, here, input, is_last, sums, output, error)
 }

@@ -14,7 +14,7 @@ use Rattle.jobs.proofs.step.begin.Statement.{statement}
 use Rattle.jobs.proofs.step.begin.Tie as tie
 
 t1 : (c : tie.After-known-told) → let a = c .before .before .before .before .before .before .before .args in
-    Took number (a .input .now) (a .at) (c .before .first .given .0 .0) (c .before .first .given .0 .1 .0)
+    Took number (a .input .now) (a .at .next) (c .before .first .given .0 .0) (c .before .first .given .0 .1 .0)
 t1 c = subst (NumberAt _ _) (c .before .first .given .1) (c .before .before .before .read-number .ensures)
 
 is-known : (c : tie.Else1) → known (c .before .before .before .first .given .0 .0) ≡ true

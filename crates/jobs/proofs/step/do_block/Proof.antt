@@ -9,9 +9,9 @@ use borrow.Author.Needs.{needs}
 use Rattle.jobs.proofs.step.do_block.Statement.{statement}
 use Rattle.jobs.proofs.step.do_block.Tie as tie
 
-slice-aggregate-count-block : tie.Need-slice-aggregate-count-block
-slice-aggregate-count-block c = simp length-take
-    (omega (arith, c .before .before .before .before .before .before .before .before .before .before .pre .0 .few-pixels))
+slice-aggregate-room : tie.Need-slice-aggregate-room
+slice-aggregate-room c =
+    simp length-take (omega (arith, c .before .before .before .before .before .before .before .before .pre .0 .few-pixels))
 
 count-block-requires : tie.Need-count-block-requires
 count-block-requires c κs =
@@ -43,7 +43,7 @@ returns-3 c =
 pub do-block-spec : {M : Type 1} → statement M
 do-block-spec =
     tie.close (tie.spec (λ c. search needs) (λ c κs. search needs) (λ c. search needs) (λ c κs. search needs)
-    (λ c. search needs) (λ c. search needs) slice-aggregate-count-block count-block-requires (λ c. search needs)
+    (λ c. search needs) (λ c. search needs) slice-aggregate-room count-block-requires (λ c. search needs)
     (λ c. search needs) (λ c. search needs) (λ c. search needs) returns (λ c. search needs) (λ c. search needs)
     (λ c. search needs) (λ c. search needs) returns-2 (λ c. search needs) (λ c. search needs) (λ c. search needs)
     (λ c. search needs) (λ c. search needs) returns-3)

@@ -23,25 +23,25 @@ abbrev read-at : tie.After-known-told → tie.After-read-record
 read-at c = c .before .before .before .before .before
 
 abbrev entry : tie.After-read-record → tie.Start
-entry c = c .before .before .before .before .before .before .before .before
+entry c = c .before .before .before .before .before .before .before .before .before
 
 -- a record that is there is not one too many
-unpast : (c : tie.Joined1) → let a = c .before .before .before .before .before .args in a .at < length (a .input .now)
-    → task-of (a .job) .past (a .«record») ≡ false
+unpast : (c : tie.Joined1) → let a = c .before .before .before .before .before .before .args in a .at .next < length (a .input .now)
+    → task-of (a .job) .past (a .at .«record») ≡ false
 unpast c l = ⊎-elim (λ x. sym (x .1 .ensures) ∙ x .2 .left) (λ x. let f : ⊥ = omega (arith, x .left, l) in absurd f) (c .if1 .came)
 
 -- a whole record was found
 abbrev head : tie.After-known-told → Head
 head c = c .before .found .given .0 .0
 
-w : (c : tie.After-known-told) → let r = read-at c in let a = entry r .args in (a .at < length (a .input .now))
-    × Took (form (a .version)) (a .input .now) (a .at)
-    (fronted (a .version) (head c) (r .read-record .last .1 .1 .1 .0) (r .read-record .last .1 .1 .1 .1 .0)) (c .before .found .given .0 .1 .0)
+w : (c : tie.After-known-told) → let r = read-at c in let a = entry r .args in (a .at .next < length (a .input .now))
+    × Took (form (a .at .version)) (a .input .now) (a .at .next)
+    (fronted (a .at .version) (head c) (r .read-record .last .1 .1 .1 .0) (r .read-record .last .1 .1 .1 .1 .0)) (c .before .found .given .0 .1 .0)
 w c = subst (RecordAt _ _ _ _ _) (c .before .found .given .1) (read-at c .read-record .ensures)
 
-can-be : (c : tie.After-known-told) → let r = read-at c in let v = entry r .args .version in
+can-be : (c : tie.After-known-told) → let r = read-at c in let v = entry r .args .at .version in
     Plain v (fronted v (head c) (r .read-record .last .1 .1 .1 .0) (r .read-record .last .1 .1 .1 .1 .0))
-can-be c = let v = entry (read-at c) .args .version in plain v _ (form-lawful v .only _ _ _ (w c .1 .read) .1)
+can-be c = let v = entry (read-at c) .args .at .version in plain v _ (form-lawful v .only _ _ _ (w c .1 .read) .1)
 
 few : (c : tie.After-known-told) → area (head c) ≤ 1024
 few c = area-most (head c) (can-be c .size)
