@@ -1,11 +1,11 @@
 -- The inverse DCT of the AV1 specification, section 7.13.2.3, as data: a list of steps, run over any algebra of values.
 use mathlib.Core.Bool.{Bool, true, false, cond}
-use mathlib.Core.List.{List, [], _∷_, _++_}
+use mathlib.Core.List.{List, [], _∷_}
 use Prim.Native.Nat.{ℕ, zero, suc, _+_, _-_, _*_, _/_, _%_, _^_}
 use lib.Dec.{leb}
 use lib.IntN.{ℤ, pos, negℤ}
 use lib.ListN.{getD, set}
-use Rattle.whole.specs.Lists.{tab}
+use Rattle.whole.specs.Lists.{tab, joined}
 
 -- ---- 7.13.2.1, butterfly functions: the cosines
 
@@ -70,16 +70,12 @@ odd zero = false
 odd (suc zero) = true
 odd (suc (suc n)) = odd n
 
-abbrev pub join : List (List Step) → List Step
-join [] = []
-join (xs ∷ xss) = xs ++ join xss
-
 -- a line of the table: for i below k (and j below m), when there are at least 2 ^ least points
 abbrev line : ℕ → ℕ → ℕ → (ℕ → Step) → List Step
 line n least k f = cond (leb least n) (tab k f) []
 
 abbrev line2 : ℕ → ℕ → ℕ → ℕ → (ℕ → ℕ → Step) → List Step
-line2 n least k m f = cond (leb least n) (join (tab k (λ i. tab m (f i)))) []
+line2 n least k m f = cond (leb least n) (joined (tab k (λ i. tab m (f i)))) []
 
 -- the lines for 2 ^ n points
 abbrev pub table : ℕ → List (List Step)
@@ -108,7 +104,7 @@ table n =
 
 -- their steps
 abbrev pub steps : ℕ → List Step
-steps n = join (table n)
+steps n = joined (table n)
 
 -- 7.13.2.2: first T[i] = input[brev(n, i)], then the steps
 module _ {A : Type 0} (𝓐 : Alg A) where

@@ -1,9 +1,9 @@
 -- What is printed of the totals (E7).
 use mathlib.Core.Bool.{cond}
-use mathlib.Core.List.{List, [], _∷_, _++_, foldr}
+use mathlib.Core.List.{List, [], _∷_, _++_}
 use Prim.Native.Nat.{ℕ}
 use lib.Dec.{eqb}
-use Rattle.whole.specs.Lists.{tab}
+use Rattle.whole.specs.Lists.{tab, joined}
 use Rattle.text.specs.Text.{decimal, line}
 use Rattle.tally.specs.Totals.{Totals, cell-w, cell-h, cell-type, in-cell}
 
@@ -11,10 +11,6 @@ use Rattle.tally.specs.Totals.{Totals, cell-w, cell-h, cell-type, in-cell}
 unfoldable pub cell-line : ℕ → ℕ → List ℕ
 unfolding line decimal
 cell-line k n = cond (eqb n 0) [] (line (decimal (cell-w k) ∷ decimal (cell-h k) ∷ decimal (cell-type k) ∷ decimal n ∷ []))
-
--- "one to a line": line after line
-abbrev pub joined : List (List ℕ) → List ℕ
-joined = foldr _++_ []
 
 -- "print, one to a line: "records" and their number, "marked" and how many had the mark, "change" and the sum .., "largest" and the greatest":
 -- these four, and what comes after them

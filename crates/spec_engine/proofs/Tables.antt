@@ -6,9 +6,9 @@ use native.Mathlib.Omega.{arith}
 use lib.IntN.{ℤ}
 use lib.ListN.{drop, drop-of-length-le}
 use lib.Seq.{drop-cons}
-use Rattle.whole.specs.Lists.{tab}
+use Rattle.whole.specs.Lists.{tab, joined}
 use Rattle.whole.proofs.Counts.{tab-at, tab-length}
-use Rattle.av1.specs.Network.{Step, run, join}
+use Rattle.av1.specs.Network.{Step, run}
 use Rattle.av1.specs.Values.{exact}
 use Rattle.av1.proofs.Bounds.{grows, able-first, able-after}
 use Rattle.av1.proofs.Tail.{run-append}
@@ -16,8 +16,8 @@ use Rattle.spec_engine.specs.Lines.{Able, each}
 
 -- of the steps of g 0, .., g (k - 1) those of the first i are done
 pub record Come (k : ℕ) (g : ℕ → List Step) (t₀ t : List ℤ) (i : ℕ) : Type 0 where
-  able : Able (join (drop i (tab k g))) t
-  same : run exact (join (drop i (tab k g))) t ≡ run exact (each k g) t₀
+  able : Able (joined (drop i (tab k g))) t
+  same : run exact (joined (drop i (tab k g))) t ≡ run exact (each k g) t₀
 
 module _ {k : ℕ} {g : ℕ → List Step} where
   pub begun : {t : List ℤ} → Able (each k g) t → Come k g t t 0
@@ -26,12 +26,12 @@ module _ {k : ℕ} {g : ℕ → List Step} where
   module _ {t₀ t : List ℤ} {i : ℕ} (come : Come k g t₀ t i) where
     module _ (more : i < k) where
       abbrev rest : List Step
-      rest = join (drop (i + 1) (tab k g))
+      rest = joined (drop (i + 1) (tab k g))
 
-      parted : join (drop i (tab k g)) ≡ g i ++ rest
+      parted : joined (drop i (tab k g)) ≡ g i ++ rest
       parted =
           let one : suc i ≡ i + 1 = omega arith in
-          ap join (drop-cons (tab k g) i [] (omega (arith, tab-length k g)) ∙ (λ j. tab-at k g [] i more j ∷ drop (one j) (tab k g)))
+          ap joined (drop-cons (tab k g) i [] (omega (arith, tab-length k g)) ∙ (λ j. tab-at k g [] i more j ∷ drop (one j) (tab k g)))
 
       left : Able (g i ++ rest) t
       left = rw parted at (come .able)

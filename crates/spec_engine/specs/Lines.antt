@@ -6,8 +6,8 @@ use Prim.Native.Nat.{ℕ, _+_, _-_, _*_, _/_, _%_, _≤_}
 use lib.Dec.{eqb, leb, ltb}
 use lib.IntN.{ℤ}
 use lib.ListN.{length, getD}
-use Rattle.whole.specs.Lists.{tab, any}
-use Rattle.av1.specs.Network.{Step, turn, mix, join}
+use Rattle.whole.specs.Lists.{tab, joined, any}
+use Rattle.av1.specs.Network.{Step, turn, mix}
 use Rattle.av1.specs.Bounds.{growth, AbleBy}
 use Rattle.spec_engine.specs.Growth.{fits}
 
@@ -17,7 +17,7 @@ Able = AbleBy growth fits false
 
 -- the steps of g 0, g 1, .., g (k - 1)
 abbrev pub each : ℕ → (ℕ → List Step) → List Step
-each k g = join (tab k g)
+each k g = joined (tab k g)
 
 -- ---- a line of H: mirrors, of which every second one flips
 
