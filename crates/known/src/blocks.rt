@@ -1,12 +1,13 @@
-// The wide two-dimensional calls of both engines: size, type, depth, offset, stride, visible columns and rows if not all are, eob or r, pixels,
-// coefficients.
-ghost use Prim.Native.Nat.{_+_, _≤_};
+// The two-dimensional calls: size, type, depth but of a narrow call (request E2), offset, stride, visible columns and rows if not all are, eob or r,
+// pixels, coefficients.
+ghost use Prim.Native.Nat.{_+_, _≤_, _<_};
 ghost use lib.ListN.{length};
 ghost use Rattle.known.specs.Lines.{Good};
 use crate::line::Line;
 use crate::line::int;
 use crate::line::ints;
 use crate::line::word;
+use crate::narrow;
 use crate::show;
 use itx::Answer;
 use strided::ByteStride;
@@ -20,94 +21,100 @@ pub fn shown(answer: Answer) {
     );
 }
 
-pub fn seen(offset: u64, stride: u64, columns: u64, rows: u64) -> View {
+// By the places of offset and stride, and of the visible columns and rows.
+pub fn seen(v: &[u64; 600], at: usize, visible: usize) -> View
+    requires { ⌜ (at < 598) × (visible < 598) ⌝ }
+{
     View {
-        offset: word(offset),
-        stride: ByteStride(int(stride)),
-        columns: columns as usize,
-        rows: rows as usize,
+        offset: word(v[at]),
+        stride: ByteStride(int(v[at + 1])),
+        columns: v[visible] as usize,
+        rows: v[visible + 1] as usize,
     }
-}
-
-// `hint` is eob or r.
-struct Call {
-    is_spec: bool,
-    has_eob: bool,
-    hint: u64,
-    w: usize,
-    h: usize,
-    txtp: usize,
-    depth: usize,
-}
-
-fn answer_of(k: Call, dst: &mut [u16], view: View, c: &mut [i32]) -> Answer {
-    let r = k.hint as usize;
-    let eob = int(k.hint);
-    if k.is_spec {
-        if k.has_eob {
-            return itx::spec_inv_txfm_add(dst, view, c, eob, k.w, k.h, k.txtp, k.depth);
-        }
-        return itx::spec_inv_txfm_add_live(dst, view, c, r, k.w, k.h, k.txtp, k.depth);
-    }
-    if k.has_eob {
-        return itx::inv_txfm_add(dst, view, c, eob, k.w, k.h, k.txtp, k.depth);
-    }
-    itx::inv_txfm_add_live(dst, view, c, r, k.w, k.h, k.txtp, k.depth)
-}
-
-fn pixel(v: u64) -> u16 {
-    (v % 65536) as u16
 }
 
 pub fn pixels(v: &[u64; 600], from: usize, dst: &mut [u16])
     requires { ⌜ from + length (now dst) ≤ 600 ⌝ }
 {
     for i in 0..dst.len() {
-        dst[i] = pixel(v[from + i]);
+        dst[i] = (v[from + i] % 65536) as u16;
     }
 }
 
-// Where the pixels come after seven numbers, all of the block is visible.
-fn view_of(v: &[u64; 600], before: usize) -> View {
-    if before == 7 {
-        return seen(v[5], v[6], v[1], v[2]);
-    }
-    seen(v[5], v[6], v[7], v[8])
+// `kind` is the first letter of the line, and `hint` eob or r.
+pub struct Call {
+    pub kind: u8,
+    pub has_eob: bool,
+    pub hint: u64,
+    pub view: View,
+    pub w: usize,
+    pub h: usize,
+    pub txtp: usize,
+    pub depth: usize,
 }
 
-// With room for the pixels and for the coefficients.
-fn run_in(v: &[u64; 600], at: Line, is_spec: bool, dst: &mut [u16], c: &mut [i32])
-    requires { ⌜ Good at × (at .before + length (now dst) ≤ at .last) × (at .last + length (now c) ≤ at .count) ⌝ }
+// How many numbers come before the pixels tells what is there: after seven all of the block is visible, and eight are a narrow call's.
+fn call_of(kind: u8, v: &[u64; 600], at: Line) -> Call
+    requires { ⌜ Good at ⌝ }
 {
-    pixels(v, at.before + 1, &mut *dst);
-    ints(v, at.last + 1, &mut *c);
     let before = at.before;
-    let k = Call {
-        is_spec,
+    let view = match before {
+        7 => seen(v, 5, 1),
+        8 => seen(v, 4, 6),
+        _ => seen(v, 5, 7),
+    };
+    Call {
+        kind,
         has_eob: at.has_eob,
         hint: v[before],
+        view,
         w: v[1] as usize,
         h: v[2] as usize,
         txtp: v[3] as usize,
         depth: v[4] as usize,
-    };
-    let answer = answer_of(k, &mut *dst, view_of(v, before), &mut *c);
+    }
+}
+
+fn answer_of(k: Call, dst: &mut [u16], c: &mut [i32]) -> Answer
+    requires { ⌜ (length (now dst) ≤ 256) × (length (now c) ≤ 256) ⌝ }
+{
+    if k.kind == b'n' {
+        return narrow::answer_of(k, dst, c);
+    }
+    let r = k.hint as usize;
+    let eob = int(k.hint);
+    if k.kind == b's' {
+        if k.has_eob {
+            return itx::spec_inv_txfm_add(dst, k.view, c, eob, k.w, k.h, k.txtp, k.depth);
+        }
+        return itx::spec_inv_txfm_add_live(dst, k.view, c, r, k.w, k.h, k.txtp, k.depth);
+    }
+    if k.has_eob {
+        return itx::inv_txfm_add(dst, k.view, c, eob, k.w, k.h, k.txtp, k.depth);
+    }
+    itx::inv_txfm_add_live(dst, k.view, c, r, k.w, k.h, k.txtp, k.depth)
+}
+
+// With room for the pixels and for the coefficients.
+fn run_in(kind: u8, v: &[u64; 600], at: Line, dst: &mut [u16], c: &mut [i32])
+    requires { ⌜ Good at × (at .before + length (now dst) ≤ at .last) × (at .last + length (now c) ≤ at .count) ⌝ }
+    requires { ⌜ (length (now dst) ≤ 256) × (length (now c) ≤ 256) ⌝ }
+{
+    pixels(v, at.before + 1, &mut *dst);
+    ints(v, at.last + 1, &mut *c);
+    let answer = answer_of(call_of(kind, v, at), &mut *dst, &mut *c);
     shown(answer);
     show::block(&*dst, &*c);
 }
 
-pub fn run(v: &[u64; 600], at: Line, is_spec: bool)
+pub fn run(kind: u8, v: &[u64; 600], at: Line)
     requires { ⌜ Good at ⌝ }
 {
     let m = at.last - at.before;
     let n = at.count - at.last;
-    if 256 < m {
-        return;
+    if m <= 256 && n <= 256 {
+        let mut dst = [0u16; 256];
+        let mut c = [0i32; 256];
+        run_in(kind, v, at, &mut dst[..m], &mut c[..n]);
     }
-    if 256 < n {
-        return;
-    }
-    let mut dst = [0u16; 256];
-    let mut c = [0i32; 256];
-    run_in(v, at, is_spec, &mut dst[..m], &mut c[..n]);
 }

@@ -48,17 +48,13 @@ fn put(v: &mut [u64; 600], at: usize, b: u8, is_negative: bool) {
 fn line_of(count: usize, before: usize, last: usize, has_eob: bool) -> Line
     ensures { λ r. ⌜ Good r ⌝ }
 {
-    if before <= last {
-        if last <= count {
-            if count < 599 {
-                return Line {
-                    count,
-                    before,
-                    last,
-                    has_eob,
-                };
-            }
-        }
+    if before <= last && last <= count && count < 599 {
+        return Line {
+            count,
+            before,
+            last,
+            has_eob,
+        };
     }
     Line {
         count: 0,

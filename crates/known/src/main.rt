@@ -1,7 +1,5 @@
 // Runs the calls that standard input lists, a line each: document 01's known results and those of the requests, both sides of every number of the
 // table, and residuals for the lossless writer. Writes each line again, with number, place and mark of the answer and what the call left.
-ghost use Prim.Native.Nat.{_≤_};
-ghost use lib.ListN.{length};
 
 mod blocks;
 mod line;
@@ -22,47 +20,30 @@ fn run(line: &[u8]) {
     let mut v = [0u64; 600];
     let at = numbers(line, &mut v);
     match line[0] {
-        b'0'..=b'9' => blocks::run(&v, at, false),
-        b's' => blocks::run(&v, at, true),
         b'r' => rows::run(&v, false),
         b'l' => writer::run(&v, at.count),
+        b'0'..=b'9' | b's' => blocks::run(line[0], &v, at),
         b'n' => {
             if at.count == 5 {
                 rows::run(&v, true);
             } else {
-                narrow::run(&v, at);
+                blocks::run(b'n', &v, at);
             }
         }
         kind => passes::run(kind, &v, at),
     }
-    show::end();
-}
-
-// Where the line that begins there ends.
-fn line_end(text: &[u8], from: usize) -> usize
-    requires { ⌜ from ≤ length (now text) ⌝ }
-    ensures { λ r. ⌜ (from ≤ r) × (r ≤ length (now (text .entry))) ⌝ }
-{
-    let mut i = from;
-    while i < text.len() {
-        if text[i] == 10 {
-            return i;
-        }
-        i += 1;
-    }
-    i
+    io::write_all(1, b"\n");
 }
 
 fn run_all(text: &[u8]) {
-    let mut at: usize = 0;
-    while at < text.len() {
-        let end = line_end(text, at);
-        run(&text[at..end]);
-        at = end;
-        if at < text.len() {
-            at += 1;
+    let mut start: usize = 0;
+    for i in 0..text.len() {
+        if text[i] == 10 {
+            run(&text[start..i]);
+            start = i + 1;
         }
     }
+    run(&text[start..]);
 }
 
 fn main() {

@@ -1,74 +1,60 @@
-// Eight-bit pages at their own width (request E2): size, type, offset, stride, visible columns and rows, eob or r, pixels, coefficients.
-ghost use Prim.Native.Nat.{_+_, _≤_};
+// A narrow call (request E2) on planes of the wide width, as lines are read and shown.
+ghost use mathlib.Core.Path.{_≡_};
+ghost use Prim.Native.Nat.{_≤_};
 ghost use lib.ListN.{length};
-ghost use Rattle.known.specs.Lines.{Good};
-use crate::blocks::seen;
-use crate::blocks::shown;
-use crate::line::Line;
+use crate::blocks::Call;
 use crate::line::int;
-use crate::line::word;
-use crate::show;
 use itx::Answer;
-use strided::View;
+use words::bits;
+use words::short;
 
-fn call(v: &[u64; 600], has_eob: bool, dst: &mut [u8], view: View, c: &mut [i16]) -> Answer {
-    let w = v[1] as usize;
-    let h = v[2] as usize;
-    let txtp = v[3] as usize;
-    if has_eob {
-        return itx::inv_txfm_add_8bpc(dst, view, c, int(v[8]), w, h, txtp);
-    }
-    itx::inv_txfm_add_live_8bpc(dst, view, c, v[8] as usize, w, h, txtp)
-}
-
-fn half(v: u64) -> i16 {
-    words::short(word(v))
-}
-
-fn halves(v: &[u64; 600], from: usize, c: &mut [i16])
-    requires { ⌜ from + length (now c) ≤ 600 ⌝ }
-{
-    for i in 0..c.len() {
-        c[i] = half(v[from + i]);
-    }
-}
-
-fn byte(v: u64) -> u8 {
-    (v % 256) as u8
-}
-
-fn bytes(v: &[u64; 600], from: usize, dst: &mut [u8])
-    requires { ⌜ from + length (now dst) ≤ 600 ⌝ }
+fn bytes(wide: &[u16], dst: &mut [u8])
+    requires { ⌜ length (now wide) ≡ length (now dst) ⌝ }
 {
     for i in 0..dst.len() {
-        dst[i] = byte(v[from + i]);
+        dst[i] = (wide[i] % 256) as u8;
     }
 }
 
-// With room for the pixels and for the coefficients.
-fn run_in(v: &[u64; 600], at: Line, dst: &mut [u8], c: &mut [i16])
-    requires { ⌜ Good at × (at .before + length (now dst) ≤ at .last) × (at .last + length (now c) ≤ at .count) ⌝ }
+fn halves(wide: &[i32], c: &mut [i16])
+    requires { ⌜ length (now wide) ≡ length (now c) ⌝ }
 {
-    bytes(v, at.before + 1, &mut *dst);
-    halves(v, at.last + 1, &mut *c);
-    let view = seen(v[4], v[5], v[6], v[7]);
-    let answer = call(v, at.has_eob, &mut *dst, view, &mut *c);
-    shown(answer);
-    show::narrow_block(&*dst, &*c);
+    for i in 0..c.len() {
+        c[i] = short(bits(wide[i]));
+    }
 }
 
-pub fn run(v: &[u64; 600], at: Line)
-    requires { ⌜ Good at ⌝ }
+fn call(k: Call, dst: &mut [u8], c: &mut [i16]) -> Answer {
+    if k.has_eob {
+        return itx::inv_txfm_add_8bpc(dst, k.view, c, int(k.hint), k.w, k.h, k.txtp);
+    }
+    itx::inv_txfm_add_live_8bpc(dst, k.view, c, k.hint as usize, k.w, k.h, k.txtp)
+}
+
+// With room for the narrow planes.
+fn answer_in(
+    k: Call,
+    wide: &mut [u16],
+    numbers: &mut [i32],
+    dst: &mut [u8],
+    c: &mut [i16],
+) -> Answer
+    requires { ⌜ (length (now wide) ≡ length (now dst)) × (length (now numbers) ≡ length (now c)) ⌝ }
 {
-    let m = at.last - at.before;
-    let n = at.count - at.last;
-    if 64 < m {
-        return;
-    }
-    if 64 < n {
-        return;
-    }
-    let mut dst = [0u8; 64];
-    let mut c = [0i16; 64];
-    run_in(v, at, &mut dst[..m], &mut c[..n]);
+    bytes(&*wide, &mut *dst);
+    halves(&*numbers, &mut *c);
+    let answer = call(k, &mut *dst, &mut *c);
+    words::widen(&*dst, wide);
+    coefs::widen(numbers, &*c, c.len());
+    answer
+}
+
+pub fn answer_of(k: Call, wide: &mut [u16], numbers: &mut [i32]) -> Answer
+    requires { ⌜ (length (now wide) ≤ 256) × (length (now numbers) ≤ 256) ⌝ }
+{
+    let m = wide.len();
+    let n = numbers.len();
+    let mut dst = [0u8; 256];
+    let mut c = [0i16; 256];
+    answer_in(k, wide, numbers, &mut dst[..m], &mut c[..n])
 }

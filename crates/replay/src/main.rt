@@ -5,6 +5,9 @@ mod passes;
 
 use words::word_at;
 
+// In place of an answer's word, whose low byte is a number of the table: that there is none.
+pub const NO_ANSWER: u64 = u64::MAX;
+
 // Runs one record, and answers whether to go on.
 fn replay() -> bool {
     let mut head = [0u8; 20];

@@ -4,6 +4,11 @@
 ghost use mathlib.Core.Path.{_≡_};
 ghost use Prim.Native.Nat.{_*_, _≤_, _<_};
 ghost use lib.ListN.{length};
+use crate::NO_ANSWER;
+use sgrifomel::sgrifomel_inv_txfm_add;
+use sgrifomel::sgrifomel_inv_txfm_add_8bpc;
+use sgrifomel::sgrifomel_inv_txfm_add_live;
+use sgrifomel::sgrifomel_inv_txfm_add_live_8bpc;
 use words::bits;
 use words::read_rest;
 use words::signed;
@@ -11,90 +16,37 @@ use words::stop;
 use words::word_at;
 use words::write_answer;
 
-// What a call is given besides its pixels and coefficients, in the words of its record: `last` is eob or r.
-struct Call {
-    live: bool,
-    last: u32,
-    w: usize,
-    h: usize,
-    txtp: usize,
-    offset: u32,
-    stride: u32,
-    columns: usize,
-    rows: usize,
-}
+// What a call is given besides its pixels and coefficients: whether it is the live-row call, eob or r as a word, w, h, type, offset, stride as a
+// word, visible columns and rows.
+struct Call(bool, u32, usize, usize, usize, u32, u32, usize, usize);
 
-// The answer's word, or that the wide call does not agree.
-enum Ran {
-    Answer(u64),
-    Differs,
-}
-
-// The narrow call.
-fn run_narrow(call: Call, pixels: &mut [u8], coeff: &mut [i16]) -> u64 {
-    if call.live {
-        return sgrifomel::sgrifomel_inv_txfm_add_live_8bpc(
-            pixels,
-            call.offset,
-            signed(call.stride),
-            call.columns,
-            call.rows,
-            coeff,
-            call.last as usize,
-            call.w,
-            call.h,
-            call.txtp,
-        );
+fn run_narrow(call: Call, dst: &mut [u8], c: &mut [i16]) -> u64 {
+    let Call(live, last, w, h, txtp, offset, stride, columns, rows) = call;
+    let stride = signed(stride);
+    if live {
+        let r = last as usize;
+        sgrifomel_inv_txfm_add_live_8bpc(dst, offset, stride, columns, rows, c, r, w, h, txtp)
+    } else {
+        let eob = signed(last);
+        sgrifomel_inv_txfm_add_8bpc(dst, offset, stride, columns, rows, c, eob, w, h, txtp)
     }
-    sgrifomel::sgrifomel_inv_txfm_add_8bpc(
-        pixels,
-        call.offset,
-        signed(call.stride),
-        call.columns,
-        call.rows,
-        coeff,
-        signed(call.last),
-        call.w,
-        call.h,
-        call.txtp,
-    )
 }
 
-// The wide call with another stride.
-fn run_wide(call: Call, stride: u32, pixels: &mut [u16], coeff: &mut [i32]) -> u64 {
-    if call.live {
-        return sgrifomel::sgrifomel_inv_txfm_add_live(
-            pixels,
-            call.offset,
-            signed(stride),
-            call.columns,
-            call.rows,
-            coeff,
-            call.last as usize,
-            call.w,
-            call.h,
-            call.txtp,
-            8,
-        );
+// The same with twice the stride, if that fits.
+fn run_wide(call: Call, dst: &mut [u16], c: &mut [i32]) -> u64 {
+    let Call(live, last, w, h, txtp, offset, stride, columns, rows) = call;
+    let quarter = stride / 1073741824;
+    if quarter == 1 || quarter == 2 {
+        return NO_ANSWER;
     }
-    sgrifomel::sgrifomel_inv_txfm_add(
-        pixels,
-        call.offset,
-        signed(stride),
-        call.columns,
-        call.rows,
-        coeff,
-        signed(call.last),
-        call.w,
-        call.h,
-        call.txtp,
-        8,
-    )
-}
-
-// A pixel at the wide call's width.
-fn wide_pixel(p: u8) -> u16 {
-    p as u16
+    let stride = signed(2 * (stride % 2147483648));
+    if live {
+        let r = last as usize;
+        sgrifomel_inv_txfm_add_live(dst, offset, stride, columns, rows, c, r, w, h, txtp, 8)
+    } else {
+        let eob = signed(last);
+        sgrifomel_inv_txfm_add(dst, offset, stride, columns, rows, c, eob, w, h, txtp, 8)
+    }
 }
 
 // Whether two planes hold the same pixels.
@@ -103,7 +55,7 @@ fn same_pixels(narrow: &[u8], wide: &[u16]) -> bool
 {
     let mut same = true;
     for i in 0..narrow.len() {
-        same = same & (wide_pixel(narrow[i]) == wide[i]);
+        same = same & (narrow[i] as u16 == wide[i]);
     }
     same
 }
@@ -124,45 +76,20 @@ fn same_coefficients(narrow: &[i16], wide: &[i32]) -> bool
     same
 }
 
-// A word that holds twice a number, or that none does.
-enum Doubled {
-    Word(u32),
-    TooFar,
-}
-
-// Twice the number that a word holds in two's complement.
-fn twice(w: u32) -> Doubled {
-    if w < 1073741824 {
-        return Doubled::Word(2 * w);
-    }
-    if w < 3221225472 {
-        return Doubled::TooFar;
-    }
-    Doubled::Word(2 * (w - 2147483648))
-}
-
-// The narrow call, and the wide one with twice the stride, if that fits, on the same numbers.
-fn run(
-    call: Call,
-    pixels: &mut [u8],
-    coeff: &mut [i16],
-    plane: &mut [u16],
-    numbers: &mut [i32],
-) -> Ran
-    requires { ⌜ length (now pixels) ≡ length (now plane) ⌝ }
-    requires { ⌜ length (now coeff) ≡ length (now numbers) ⌝ }
+// The narrow call, and on the same numbers the wide one, which has to agree.
+fn run(call: Call, dst: &mut [u8], c: &mut [i16], plane: &mut [u16], numbers: &mut [i32]) -> u64
+    requires { ⌜ length (now dst) ≡ length (now plane) ⌝ }
+    requires { ⌜ length (now c) ≡ length (now numbers) ⌝ }
 {
-    words::widen(&*pixels, &mut *plane);
-    coefs::widen(&mut *numbers, &*coeff, coeff.len());
-    let answer = run_narrow(call, &mut *pixels, &mut *coeff);
-    let Doubled::Word(stride) = twice(call.stride) else {
-        return Ran::Answer(answer);
-    };
-    let beside = run_wide(call, stride, &mut *plane, &mut *numbers);
-    if answer == beside && same_pixels(&*pixels, &*plane) && same_coefficients(&*coeff, &*numbers) {
-        return Ran::Answer(answer);
+    words::widen(&*dst, &mut *plane);
+    coefs::widen(&mut *numbers, &*c, c.len());
+    let beside = run_wide(call, &mut *plane, &mut *numbers);
+    let answer = run_narrow(call, &mut *dst, &mut *c);
+    let same = same_pixels(&*dst, &*plane) & same_coefficients(&*c, &*numbers);
+    if beside == NO_ANSWER || (same & (answer == beside)) {
+        return answer;
     }
-    Ran::Differs
+    NO_ANSWER
 }
 
 // The coefficient that two bytes spell, low byte first.
@@ -212,10 +139,10 @@ fn replay_block(
         return false;
     }
     load(&*bytes, &mut *coeff);
-    let ran = run(call, &mut *pixels, &mut *coeff, plane, numbers);
-    let Ran::Answer(answer) = ran else {
+    let answer = run(call, &mut *pixels, &mut *coeff, plane, numbers);
+    if answer == NO_ANSWER {
         return stop(b"the wide call differs\n");
-    };
+    }
     store(&*coeff, &mut *bytes);
     write_answer(answer) & io::write_all(1, &*pixels) & io::write_all(1, &*bytes)
 }
@@ -240,6 +167,20 @@ fn replay_sized(call: Call, m: usize, n: usize) -> bool
     )
 }
 
+fn call_of(live: bool, head: &[u8; 20], more: &[u8; 24]) -> Call {
+    Call(
+        live,
+        word_at(head, 4),
+        word_at(head, 8) as usize,
+        word_at(head, 12) as usize,
+        word_at(head, 16) as usize,
+        word_at(more, 0),
+        word_at(more, 4),
+        word_at(more, 8) as usize,
+        word_at(more, 12) as usize,
+    )
+}
+
 pub fn replay(kind: u32, head: &[u8; 20]) -> bool {
     if 7 < kind {
         return stop(b"there is no such call\n");
@@ -253,16 +194,5 @@ pub fn replay(kind: u32, head: &[u8; 20]) -> bool {
     if 2048 < m || 1100 < n {
         return stop(b"a record is too long\n");
     }
-    let call = Call {
-        live: kind == 7,
-        last: word_at(head, 4),
-        w: word_at(head, 8) as usize,
-        h: word_at(head, 12) as usize,
-        txtp: word_at(head, 16) as usize,
-        offset: word_at(&more, 0),
-        stride: word_at(&more, 4),
-        columns: word_at(&more, 8) as usize,
-        rows: word_at(&more, 12) as usize,
-    };
-    replay_sized(call, m, n)
+    replay_sized(call_of(kind == 7, head, &more), m, n)
 }

@@ -1,6 +1,7 @@
 // A pass: kind, n, stride, m, length and the elements in; number, place, mark and the elements out.
 ghost use Prim.Native.Nat.{_*_, _≤_};
 ghost use lib.ListN.{length};
+use crate::NO_ANSWER;
 use words::bits;
 use words::load;
 use words::put_word;
@@ -10,36 +11,30 @@ use words::stop;
 use words::word_at;
 use words::write_answer;
 
-// The answer's word, or that there is no such pass.
-enum Ran {
-    Answer(u64),
-    NoPass,
-}
-
-fn run(kind: u32, n: u32, c: &mut [i32], stride: usize, min: i32, max: i32) -> Ran {
+fn run(kind: u32, n: u32, c: &mut [i32], stride: usize, min: i32, max: i32) -> u64 {
     if 5 < kind {
-        return Ran::NoPass;
+        return NO_ANSWER;
     }
     if 32 < n {
-        return Ran::NoPass;
+        return NO_ANSWER;
     }
     match 100 * kind + n {
-        4 => Ran::Answer(sgrifomel::sgrifomel_inv_dct4_1d(c, stride, min, max)),
-        8 => Ran::Answer(sgrifomel::sgrifomel_inv_dct8_1d(c, stride, min, max)),
-        16 => Ran::Answer(sgrifomel::sgrifomel_inv_dct16_1d(c, stride, min, max)),
-        32 => Ran::Answer(sgrifomel::sgrifomel_inv_dct32_1d(c, stride, min, max)),
-        104 => Ran::Answer(sgrifomel::sgrifomel_inv_identity4_1d(c, stride, min, max)),
-        108 => Ran::Answer(sgrifomel::sgrifomel_inv_identity8_1d(c, stride, min, max)),
-        116 => Ran::Answer(sgrifomel::sgrifomel_inv_identity16_1d(c, stride, min, max)),
-        132 => Ran::Answer(sgrifomel::sgrifomel_inv_identity32_1d(c, stride, min, max)),
-        204 => Ran::Answer(sgrifomel::sgrifomel_inv_wht4_1d(c, stride)),
-        304 => Ran::Answer(sgrifomel::sgrifomel_inv_dct4_half_1d(c, stride, min, max)),
-        308 => Ran::Answer(sgrifomel::sgrifomel_inv_dct8_half_1d(c, stride, min, max)),
-        316 => Ran::Answer(sgrifomel::sgrifomel_inv_dct16_half_1d(c, stride, min, max)),
-        332 => Ran::Answer(sgrifomel::sgrifomel_inv_dct32_half_1d(c, stride, min, max)),
-        404 => Ran::Answer(sgrifomel::sgrifomel_inv_adst4_1d(c, stride, min, max)),
-        504 => Ran::Answer(sgrifomel::sgrifomel_inv_flipadst4_1d(c, stride, min, max)),
-        _ => Ran::NoPass,
+        4 => sgrifomel::sgrifomel_inv_dct4_1d(c, stride, min, max),
+        8 => sgrifomel::sgrifomel_inv_dct8_1d(c, stride, min, max),
+        16 => sgrifomel::sgrifomel_inv_dct16_1d(c, stride, min, max),
+        32 => sgrifomel::sgrifomel_inv_dct32_1d(c, stride, min, max),
+        104 => sgrifomel::sgrifomel_inv_identity4_1d(c, stride, min, max),
+        108 => sgrifomel::sgrifomel_inv_identity8_1d(c, stride, min, max),
+        116 => sgrifomel::sgrifomel_inv_identity16_1d(c, stride, min, max),
+        132 => sgrifomel::sgrifomel_inv_identity32_1d(c, stride, min, max),
+        204 => sgrifomel::sgrifomel_inv_wht4_1d(c, stride),
+        304 => sgrifomel::sgrifomel_inv_dct4_half_1d(c, stride, min, max),
+        308 => sgrifomel::sgrifomel_inv_dct8_half_1d(c, stride, min, max),
+        316 => sgrifomel::sgrifomel_inv_dct16_half_1d(c, stride, min, max),
+        332 => sgrifomel::sgrifomel_inv_dct32_half_1d(c, stride, min, max),
+        404 => sgrifomel::sgrifomel_inv_adst4_1d(c, stride, min, max),
+        504 => sgrifomel::sgrifomel_inv_flipadst4_1d(c, stride, min, max),
+        _ => NO_ANSWER,
     }
 }
 
@@ -61,10 +56,10 @@ fn replay_elements(b: &mut [u8], c: &mut [i32], kind: u32, n: u32, stride: usize
     load(&*b, &mut *c);
     let min = signed(4294967295 - high);
     let max = signed(high);
-    let ran = run(kind, n, &mut *c, stride, min, max);
-    let Ran::Answer(answer) = ran else {
+    let answer = run(kind, n, &mut *c, stride, min, max);
+    if answer == NO_ANSWER {
         return stop(b"there is no such pass\n");
-    };
+    }
     store(&*c, &mut *b);
     write_answer(answer) & io::write_all(1, &*b)
 }

@@ -10,6 +10,6 @@ use Rattle.known.proofs.blocks.pixels.Tie as tie
 pub pixels-spec : {M : Type 1} → statement M
 pixels-spec =
     tie.close (tie.spec (λ v from dst₀ i₀ i-end dst i. (i-end ≡ length dst₀) × (length dst ≡ length dst₀))
-    (λ v from dst₀ i₀ i-end dst i. i-end - i) (λ c. search needs) (λ c. search needs) (λ c. search needs)
-    (λ c. search needs) (λ c κs. search needs) (λ c. search needs) (λ c. search needs) (λ c. search needs)
-    (λ c. search needs) (λ c. simp length-set (omega arith)) (λ c. search needs) (λ c. search needs))
+    (λ v from dst₀ i₀ i-end dst i. i-end - i) (λ c. search needs) (λ c. search needs) (λ c. search needs) (λ c. search needs)
+    (λ c. search needs) (λ c. search needs) (λ c. search needs) (λ c. search needs) (λ c. search needs)
+    (λ c. simp length-set (omega arith)) (λ c. search needs) (λ c. search needs))

@@ -9,7 +9,7 @@ use Rattle.known.proofs.narrow.bytes.Tie as tie
 
 pub bytes-spec : {M : Type 1} → statement M
 bytes-spec =
-    tie.close (tie.spec (λ v from dst₀ i₀ i-end dst i. (i-end ≡ length dst₀) × (length dst ≡ length dst₀))
-    (λ v from dst₀ i₀ i-end dst i. i-end - i) (λ c. search needs) (λ c. search needs) (λ c. search needs)
-    (λ c. search needs) (λ c κs. search needs) (λ c. search needs) (λ c. search needs) (λ c. search needs)
-    (λ c. simp length-set (omega arith)) (λ c. search needs) (λ c. search needs))
+    tie.close (tie.spec (λ wide dst₀ i₀ i-end dst i. (i-end ≡ length dst₀) × (length dst ≡ length dst₀))
+    (λ wide dst₀ i₀ i-end dst i. i-end - i) (λ c. search needs) (λ c. search needs) (λ c. search needs) (λ c. search needs)
+    (λ c. search needs) (λ c. search needs) (λ c. search needs) (λ c. simp length-set (omega arith)) (λ c. search needs)
+    (λ c. search needs))

@@ -9,7 +9,7 @@ use Rattle.known.proofs.narrow.halves.Tie as tie
 
 pub halves-spec : {M : Type 1} → statement M
 halves-spec =
-    tie.close (tie.spec (λ v from c₀ i₀ i-end c i. (i-end ≡ length c₀) × (length c ≡ length c₀))
-    (λ v from c₀ i₀ i-end c i. i-end - i) (λ c. search needs) (λ c. search needs) (λ c. search needs)
-    (λ c. search needs) (λ c κs. search needs) (λ c. search needs) (λ c. search needs) (λ c. search needs)
-    (λ c. search needs) (λ c. simp length-set (omega arith)) (λ c. search needs) (λ c. search needs))
+    tie.close (tie.spec (λ wide c₀ i₀ i-end c i. (i-end ≡ length c₀) × (length c ≡ length c₀))
+    (λ wide c₀ i₀ i-end c i. i-end - i) (λ c. search needs) (λ c. search needs) (λ c. search needs) (λ c κs. search needs)
+    (λ c κs. search needs) (λ c. search needs) (λ c. search needs) (λ c. search needs) (λ c. search needs)
+    (λ c. simp length-set (omega arith)) (λ c. search needs) (λ c. search needs))
