@@ -1,5 +1,5 @@
 -- What a kind of pass is: document 01, "Sizes, types, depths" and "Two-dimensional transform". Whoever asks no more than this lists no kinds.
-use mathlib.Core.Bool.{Bool, true, false, cond}
+use mathlib.Core.Bool.{Bool, true, false, cond, not}
 use lib.IntN.{ℤ}
 use Rattle.levels.specs.declared.Kind.{Kind}
 use Rattle.levels.specs.declared.Kind.the-variants.{Dct, Identity, Wht, Adst, FlipAdst}
@@ -28,6 +28,10 @@ four-only k = manner k .four-only
 
 abbrev pub is-adst : Kind → Bool
 is-adst k = manner k .adst
+
+-- "E8's engine still refuses" the ADSTs (E9)
+abbrev pub specified : Kind → Bool
+specified k = not (is-adst k)
 
 -- a for WHT_WHT, b for the other types
 abbrev pub if-wht : Kind → ℤ → ℤ → ℤ

@@ -15,6 +15,7 @@ use Rattle.av1.specs.Network.{steps, run, brev, dct}
 use Rattle.av1.specs.Values.{exact}
 use Rattle.av1.specs.Passes.{av1-identity, av1-wht}
 use Rattle.levels.specs.declared.Kind.{Kind}
+use Rattle.levels.specs.Manners.{specified}
 use Rattle.levels.specs.declared.Kind.the-variants.{Dct, Identity, Wht, Adst, FlipAdst}
 use Rattle.av1.proofs.Sides.{by-side}
 use Rattle.passes.specs.Passes.{taken, put, wht, pass, av1-pass}
@@ -23,7 +24,7 @@ use Rattle.passes.proofs.PassLaws.{identity-zero, identity-one, mapped-at, len-
 use Rattle.av1.proofs.Tail.{below, run-length, run-front}
 use Rattle.av1.proofs.Zeros.{at-tab, at-zeros, at-padded}
 use Rattle.passes.proofs.Strides.{at-most-32}
-use Rattle.spec_engine.specs.Arrays.{points, Points, begun, Held, Begins, specified, Ready, Transforms}
+use Rattle.spec_engine.specs.Arrays.{points, Points, begun, Held, Begins, Ready, Transforms}
 use Rattle.spec_engine.specs.Lines.{Able}
 use Rattle.av1.specs.Bounds.{Small}
 use Rattle.spec_engine.proofs.Fronts.{both-of, begun-all, begun-long, begun-at, power, points-small}

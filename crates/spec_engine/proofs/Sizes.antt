@@ -13,6 +13,7 @@ use Rattle.av1.specs.Network.{run, steps, brev}
 use Rattle.av1.proofs.Related.{both-tab, run-related}
 use Rattle.av1.proofs.Related as Related
 use Rattle.levels.specs.declared.Kind.{Kind}
+use Rattle.levels.specs.Manners.{specified}
 use Rattle.levels.specs.declared.Kind.the-variants.{Dct, Identity, Wht, Adst, FlipAdst}
 use Rattle.av1.proofs.Sides.{by-side}
 use Rattle.passes.specs.Passes.{pass, av1-pass}
@@ -20,7 +21,6 @@ use Rattle.passes.proofs.PassLaws.{pass-av1, pass-small}
 use Rattle.spec_engine.specs.Growth.{all-below}
 use Rattle.av1.specs.Bounds.{Small, growth}
 use Rattle.av1.proofs.Bounds.{grows}
-use Rattle.spec_engine.specs.Arrays.{specified}
 use Rattle.spec_engine.proofs.Cosines.{small-at}
 
 -- the bounds through the lines, from numbers up to k

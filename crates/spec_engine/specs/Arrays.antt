@@ -1,6 +1,6 @@
 -- The array T as the functions find it and leave it.
 use mathlib.Core.Path.{_≡_}
-use mathlib.Core.Bool.{Bool, not, cond}
+use mathlib.Core.Bool.{cond}
 use mathlib.Core.List.{List, _++_}
 use Prim.Native.Nat.{ℕ, _^_, _≤_, _<_}
 use lib.Dec.{T, eqb}
@@ -9,7 +9,7 @@ use lib.ListN.{length, drop}
 use Rattle.whole.specs.Lists.{at, tab}
 use Rattle.levels.specs.Sides.{Side, of4, of8, of16, of32, bits}
 use Rattle.levels.specs.declared.Kind.{Kind}
-use Rattle.levels.specs.Manners.{is-adst}
+use Rattle.levels.specs.Manners.{specified}
 use Rattle.passes.specs.Inner.{most, Lined, Passable}
 
 -- the length 2 ^ n, for the n that the specification's transforms are for up to 32 points
@@ -31,10 +31,6 @@ pub record Begins (n : ℕ) (xs t : List ℤ) : Type 0 where
 pub record Held (k : ℕ) (t : List ℤ) : Type 0 where
   pub long : length t ≡ 32
   pub small : (i : ℕ) → natAbs (at t i) ≤ k
-
--- "E8's engine still refuses" the ADSTs (E9)
-abbrev pub specified : Kind → Bool
-specified kind = not (is-adst kind)
 
 pub record Ready (kind : Kind) (n : ℕ) (t : List ℤ) : Type 0 where
   pub kind-in : T (specified kind)

@@ -8,9 +8,8 @@ use Rattle.whole.specs.Numbers.{round2, low, high}
 use Rattle.whole.specs.Lists.{at, tab, any}
 use Rattle.levels.specs.Sides.{Side, side}
 use Rattle.levels.specs.declared.Kind.{Kind}
-use Rattle.levels.specs.Manners.{if-wht}
+use Rattle.levels.specs.Manners.{if-wht, specified}
 use Rattle.passes.specs.Passes.{Passed, pass, av1-pass}
-use Rattle.spec_engine.specs.Arrays.{specified}
 use Rattle.bitdepth.specs.declared.Depth.{Depth}
 use Rattle.bitdepth.specs.Depths.{row-range, column-range}
 use Rattle.levels.specs.declared.Plan.{Plan}
