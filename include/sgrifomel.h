@@ -23,8 +23,9 @@ static inline uint64_t sgrifomel_place(uint64_t answer) {
     return answer >> 16;
 }
 
-/* The numbers of refusal, in the order of the checks. A refusal leaves every buffer as it was, with mark 0. 9, 10, 14 and 21
-   carry the place of the first offender, counted from 0; the others carry 0. */
+/* The numbers of refusal, in the order of the checks. A refusal leaves every buffer as it was, with mark 0. 9, 10, 14, 21
+   and the writer's 23 carry the place of the first offender, counted from 0: of 9 and 10 its place in coeff, of 14 the number of the
+   element, whatever the stride. The others carry 0. */
 enum {
     SGRIFOMEL_ACCEPTED = 0,
     SGRIFOMEL_SIZE = 1,         /* size not among the fourteen */
