@@ -1,10 +1,9 @@
 -- What the code asks and answers, in terms of the definitions: places of slices instead of lists of bytes.
-use mathlib.Core.Bool.{Bool}
 use mathlib.Core.List.{List}
 use Prim.Native.Nat.{ℕ, _≤_, _<_}
 use lib.IntN.{ℤ}
 use lib.ListN.{length, take}
-use Rattle.numbers.specs.Form.{Form, number, only-if, times}
+use Rattle.numbers.specs.Form.{Form, times}
 use Rattle.blockfile.specs.Record.{Block, area, count, head-of, form}
 use Rattle.numbers.specs.Inner.{Took, Missed}
 use Rattle.blockfile.specs.declared.samples.Place.{Place}
@@ -14,10 +13,6 @@ use Rattle.blockfile.specs.declared.record.HeadRead.{HeadRead}
 use Rattle.blockfile.specs.declared.record.HeadRead.the-variants as HeadRead
 use Rattle.blockfile.specs.declared.record.Found.{Found}
 use Rattle.blockfile.specs.declared.record.Found.the-variants as Found
-
--- a file's first number, of those that pass a test
-abbrev pub first : (ℕ → Bool) → Form ℕ
-first ok = only-if number ok 18
 
 -- n coefficients or pixels, which stand at the front of a list then
 abbrev pub EachAt : {A : Type 0} → Form A → List ℕ → ℕ → ℕ → List A → Place → Type 0

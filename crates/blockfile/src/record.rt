@@ -6,7 +6,7 @@ ghost use lib.Dec.{eqb};
 ghost use lib.ListN.{length};
 ghost use Rattle.blockfile.specs.Record.{sized, announces, head-of, form};
 ghost use Rattle.blockfile.specs.Inner.{HeadAt, RecordAt, head-refusal, block-of};
-ghost use Rattle.numbers.specs.Inner.{Put};
+ghost use Rattle.numbers.specs.Put.{Put};
 use crate::samples;
 use crate::samples::Place;
 use crate::samples::read_coefficients;

@@ -5,7 +5,7 @@ ghost use lib.ListN.{length};
 ghost use Rattle.numbers.specs.Form.{write-each};
 ghost use Rattle.blockfile.specs.Record.{pixel, coefficient};
 ghost use Rattle.blockfile.specs.Inner.{place-refusal, EachAt};
-ghost use Rattle.numbers.specs.Inner.{Put};
+ghost use Rattle.numbers.specs.Put.{Put};
 use numbers::Number;
 use numbers::coefficient_of;
 use numbers::number_of;

@@ -26,7 +26,7 @@ fn store(t: &mut [i32; 32], a: usize, b: usize, u: i32, v: i32, flip: bool)
     }
 }
 
-// B of section 7.13.2.2 where the element at the odd place is zero: the crate's `tx64` branches. It is not read.
+// B of section 7.13.2.1 where the element at the odd place is zero: the crate's `tx64` branches. It is not read.
 fn lone(t: &mut [i32; 32], a: usize, b: usize, cos: i32, sin: i32, flip: bool)
     requires { ⌜ Lonely (now t) a b cos sin ⌝ }
     ensures { λ _. ⌜ now (t .exit) ≡ Network.step exact (Network.B a b cos sin flip) (now (t .entry)) ⌝ }
@@ -44,7 +44,7 @@ fn lone(t: &mut [i32; 32], a: usize, b: usize, cos: i32, sin: i32, flip: bool)
     }
 }
 
-// B of section 7.13.2.2.
+// B of section 7.13.2.1.
 fn turn(t: &mut [i32; 32], a: usize, b: usize, cos: i32, sin: i32, flip: bool)
     requires { ⌜ Turnable (now t) a b cos sin ⌝ }
     ensures { λ _. ⌜ now (t .exit) ≡ Network.step exact (Network.B a b cos sin flip) (now (t .entry)) ⌝ }
@@ -56,7 +56,7 @@ fn turn(t: &mut [i32; 32], a: usize, b: usize, cos: i32, sin: i32, flip: bool)
     store(t, a, b, u, v, flip);
 }
 
-// H of section 7.13.2.2 with the crate's clips, and whether one of them changed a value.
+// H of section 7.13.2.1 with the crate's clips, and whether one of them changed a value.
 fn join(t: &mut [i32; 32], a: usize, b: usize, min: i32, max: i32) -> bool
     requires { ⌜ Mixable (now t) a b ⌝ }
     ensures { λ r. ⌜ Stages.Joined (Network.H a b ∷ []) min max (now (t .entry)) (now (t .exit)) r ⌝ }

@@ -13,14 +13,16 @@ use Rattle.numbers.specs.Form as Form
 use Rattle.numbers.specs.Form.{only-if}
 use Rattle.blockfile.specs.Record.{Block, form}
 use Rattle.blockfile.specs.File.{refused-at, known}
-use Rattle.numbers.specs.Inner.{Put, Took, Missed}
+use Rattle.numbers.specs.Inner.{Took, Missed}
+use Rattle.numbers.specs.Put.{Put}
 use Rattle.blockfile.specs.Inner.{block-of}
 use Rattle.blockfile.specs.declared.record.Head.{Head}
 use Rattle.numbers.proofs.Writing.{put-none}
 use Rattle.task.specs.Task.{Written, both, nothing, Done, done, bad}
 use Rattle.task.specs.Steps.{Place, outset, before, Step, wrote, wanted, number, mind, ending, falling, opened, acting, came, step}
 use Rattle.tally.specs.Totals.{Tally, tally, totals}
-use Rattle.tally.specs.Inner.{tallied, sums-of, Added, Countable}
+use Rattle.tally.specs.Inner.{tallied, Added}
+use Rattle.tally.specs.Counts.{sums-of, Countable}
 use Rattle.mend.specs.Mend.{range}
 use Rattle.mend.specs.Inner.{Mended}
 use Rattle.tally.proofs.Sums.{countable-done}

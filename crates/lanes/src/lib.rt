@@ -61,7 +61,7 @@ fn store(t: &mut [i32; 1024], i: usize, j: usize, u: i32, v: i32, flip: bool)
     }
 }
 
-// B of section 7.13.2.2 on elements a and b of line l, where the one at the odd place is zero: the crate's `tx64` branches. It is not read.
+// B of section 7.13.2.1 on elements a and b of line l, where the one at the odd place is zero: the crate's `tx64` branches. It is not read.
 fn lone(t: &mut [i32; 1024], l: usize, a: usize, b: usize, cos: i32, sin: i32, flip: bool)
     requires { ⌜ Lonely (now t) l a b cos sin ⌝ }
     ensures { λ _. ⌜ OnLane l (Network.step exact (Network.B a b cos sin flip)) (now (t .entry)) (now (t .exit)) ⌝ }
@@ -81,7 +81,7 @@ fn lone(t: &mut [i32; 1024], l: usize, a: usize, b: usize, cos: i32, sin: i32, f
     }
 }
 
-// B of section 7.13.2.2 on elements a and b of line l.
+// B of section 7.13.2.1 on elements a and b of line l.
 fn turn(
     t: &mut [i32; 1024],
     l: usize,
@@ -108,7 +108,7 @@ fn turn(
     store(t, i, j, u, v, flip);
 }
 
-// H of section 7.13.2.2 without a clip, and whether one would change a value.
+// H of section 7.13.2.1 without a clip, and whether one would change a value.
 fn mix(t: &mut [i32; 1024], l: usize, a: usize, b: usize, min: i32, max: i32) -> bool
     requires { ⌜ Paired (now t) l a b 1073741823 ⌝ }
     ensures { λ r. ⌜ Stages.Mixed (Network.H a b ∷ []) min max l (now (t .entry)) (now (t .exit)) r ⌝ }

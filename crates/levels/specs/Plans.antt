@@ -100,3 +100,7 @@ abbrev pub decision-of : Decision → Check Plan
 decision-of (Planned p) = accept p
 decision-of NoSize = refuse 1 0
 decision-of NoType = refuse 2 0
+
+-- the plan of WHT_WHT, whose shift no step takes
+abbrev pub wht-plan : ℕ → Plan
+wht-plan shift = record { w = 4; h = 4; shift = shift; rows = Wht; columns = Wht }

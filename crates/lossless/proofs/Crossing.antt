@@ -13,7 +13,8 @@ use Rattle.whole.proofs.Sizes.{abs-mul}
 use Rattle.bitdepth.specs.declared.Depth.{Depth}
 use Rattle.steps.specs.Blocks.{way, entered, middle, residual}
 use Rattle.steps.specs.declared.Engine.the-variants.{First}
-use Rattle.residual.specs.Inner.{wht-plan, ResolvedIn}
+use Rattle.residual.specs.Inner.{ResolvedIn}
+use Rattle.levels.specs.Plans.{wht-plan}
 use Rattle.lossless.specs.Writes.{unwht, down, along, coefficient, coefficients}
 use Rattle.lossless.specs.Inner.{Sixteen, other, crossing, crossed}
 use Rattle.lossless.proofs.Exact.{of-four, of-four-ext, by-four, residual-is, middle-is}

@@ -22,7 +22,7 @@ use Rattle.bitdepth.specs.declared.Depth.{Depth}
 use Rattle.bitdepth.specs.declared.Depth.the-variants.{Eight, Ten, Twelve}
 use Rattle.bitdepth.specs.Depths.{row-range, maximum}
 use Rattle.steps.specs.Blocks.{Way, way, entered, middle, residual}
-use Rattle.residual.specs.Inner.{wht-plan}
+use Rattle.levels.specs.Plans.{wht-plan}
 use Rattle.lossless.specs.Writes.{unwht, down, along, coefficient, coefficients}
 
 -- ---- four numbers

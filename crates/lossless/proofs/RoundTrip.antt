@@ -24,7 +24,7 @@ use Rattle.above.proofs.Above.{no-above}
 use Rattle.strided.proofs.Rows.{columns-in, rows-in}
 use Rattle.scaling.specs.Scaling.{shortcut}
 use Rattle.steps.specs.Blocks.{way, row, column, residual}
-use Rattle.residual.specs.Inner.{wht-plan}
+use Rattle.levels.specs.Plans.{wht-plan}
 use Rattle.pixels.specs.Adds.{add-pixel}
 use Rattle.passes.specs.Passes.{pass}
 use Rattle.whole.specs.Answers.{Answer, acceptance}

@@ -15,11 +15,11 @@ use Rattle.whole.specs.Numbers.{outside, low, high}
 use Rattle.whole.specs.Checks.{Check, accept, refuse}
 use Rattle.whole.specs.Lists.{at}
 use Rattle.whole.proofs.Clips.{clip-inside, clip-abs}
-use Rattle.numbers.specs.Inner.{Put}
+use Rattle.numbers.specs.Put.{Put}
 use Rattle.numbers.proofs.Writing.{put-then, put-length, put-none}
 use Rattle.text.specs.Text.{line}
-use Rattle.mend.specs.Mend.{moved, Change, changes, lines}
-use Rattle.mend.specs.Inner.{change, change-line, reach, Mended}
+use Rattle.mend.specs.Mend.{moved, Change, changes, lines, change}
+use Rattle.mend.specs.Inner.{change-line, reach, Mended}
 use Rattle.text.proofs.Texts.{decimal-short, signed-fits, signed-small, put-one}
 
 -- ---- a line, word by word

@@ -14,8 +14,7 @@ use Rattle.whole.specs.Checks.{Check, accept, refuse}
 use Rattle.whole.proofs.Clips.{clip-inside, clip-kept}
 use Rattle.whole.proofs.Ranges.{zero-inside}
 use Rattle.whole.proofs.Counts.{map-at}
-use Rattle.mend.specs.Mend.{moved, Change, changes, changes-in, mended, mend, range, changes-of, InRange, told-of, Rising}
-use Rattle.mend.specs.Inner.{change}
+use Rattle.mend.specs.Mend.{moved, Change, changes, changes-in, mended, mend, range, changes-of, InRange, told-of, Rising, change}
 use Rattle.blockfile.specs.Record.{Block}
 
 -- ---- the changes

@@ -6,14 +6,11 @@ use Prim.Native.Nat.{ℕ}
 use lib.IntN.{ℤ}
 use Rattle.whole.specs.Checks.{Check, accept, refuse}
 use Rattle.bitdepth.specs.Depths.{row-range}
-use Rattle.numbers.specs.Inner.{Put}
+use Rattle.numbers.specs.Put.{Put}
 use Rattle.text.specs.Text.{decimal, signed, line}
-use Rattle.mend.specs.Mend.{moved, Change, mended, changes-in, lines}
+use Rattle.mend.specs.Mend.{mended, changes-in, lines}
 use Rattle.mend.specs.declared.RowRange.{RowRange}
 use Rattle.mend.specs.declared.RowRange.the-variants.{Of, None}
-
-abbrev pub change : ℕ → ℕ → ℤ → Change
-change m i v = record { place = i; old = v; new = moved m v }
 
 -- the line of a change
 abbrev pub change-line : ℕ → ℕ → ℤ → ℤ → List ℕ

@@ -37,6 +37,10 @@ pub record Change : Type 0 where
   pub old : ℤ
   pub new : ℤ
 
+-- that of a coefficient v at place i
+abbrev pub change : ℕ → ℕ → ℤ → Change
+change m i v = record { place = i; old = v; new = moved m v }
+
 -- "each change exactly once, and no others": those of coefficients in the file's order, the first of which has place i
 abbrev pub changes : ℕ → ℕ → List ℤ → List Change
 changes m i [] = []

@@ -4,7 +4,7 @@ ghost use Prim.Native.Nat.{_+_, _*_, _≤_};
 ghost use lib.ListN.{length};
 ghost use Rattle.whole.specs.Checks.{accept};
 ghost use Rattle.bitdepth.specs.Depths as Depths;
-ghost use Rattle.numbers.specs.Inner.{Put};
+ghost use Rattle.numbers.specs.Put.{Put};
 ghost use Rattle.mend.specs.Mend as Mend;
 ghost use Rattle.mend.specs.Inner.{change-line, Mended, reach, reach-of};
 use bitdepth::Depth;

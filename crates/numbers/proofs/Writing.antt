@@ -8,7 +8,7 @@ use native.Mathlib.Numerals.{add-one}
 use lib.ListN.{length, set, getD, drop, length-append, drop-of-length-le}
 use lib.Seq.{sets, length-sets, drop-cons}
 use Rattle.numbers.specs.Form.{Form, write-each}
-use Rattle.numbers.specs.Inner.{Put}
+use Rattle.numbers.specs.Put.{Put}
 
 pub sets-append : {A : Type 0} (xs ys l : List A) (i : ℕ) → sets l i (xs ++ ys) ≡ sets (sets l i xs) (i + length xs) ys
 sets-append [] ys l i = ap (λ (j : ℕ). sets l j ys) (omega arith)

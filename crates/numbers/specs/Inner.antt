@@ -5,13 +5,10 @@ use mathlib.Core.List.{List}
 use Prim.Native.Nat.{ℕ, _+_, _*_, _≤_}
 use lib.Dec.{eqb, ltb}
 use lib.ListN.{length, drop}
-use lib.Seq.{sets}
 use Rattle.numbers.specs.Read.{got, refused}
 use Rattle.numbers.specs.Form.{Form, number}
 use Rattle.numbers.specs.declared.Number.{Number}
 use Rattle.numbers.specs.declared.Number.the-variants.{Got, Refused}
-
--- ---- reading at a place
 
 -- c reads a at a place of s, and `next` is the place after it
 pub record Took {A : Type 0} (c : Form A) (s : List ℕ) (at : ℕ) (a : A) (next : ℕ) : Type 0 where
@@ -34,11 +31,3 @@ last-group value scale b next = cond (eqb b 0 && ltb 1 scale) (Refused 17) (Got 
 abbrev pub number-refusal : Number → ℕ
 number-refusal (Got v next) = 0
 number-refusal (Refused k) = k
-
--- ---- writing at a place
-
--- bytes are written to a list from a place on, where they have room
-pub record Put (bytes : List ℕ) (entry : List ℕ) (at : ℕ) (exit : List ℕ) (r : ℕ) : Type 0 where
-  pub elements : exit ≡ sets entry at bytes
-  pub place : r ≡ at + length bytes
-  pub room : r ≤ length entry

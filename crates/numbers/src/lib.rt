@@ -4,7 +4,8 @@ ghost use Prim.Native.Nat.{_+_, _*_, _≤_, _<_};
 ghost use lib.ListN.{length};
 ghost use Rattle.numbers.specs.Form.{number};
 ghost use Rattle.numbers.specs.Zigzag.{zig, zag};
-ghost use Rattle.numbers.specs.Inner.{NumberAt, last-group, number-refusal, Put};
+ghost use Rattle.numbers.specs.Inner.{NumberAt, last-group, number-refusal};
+ghost use Rattle.numbers.specs.Put.{Put};
 
 // A number and the place after it, or the number of a refusal.
 pub enum Number {

@@ -11,12 +11,12 @@ use lib.ListN.{length, getD, length-append}
 use lib.Pow.{pow-mono}
 use Rattle.whole.specs.Lists.{tab, joined}
 use Rattle.whole.proofs.Counts.{tab-at, tab-ext}
-use Rattle.numbers.specs.Inner.{Put}
+use Rattle.numbers.specs.Put.{Put}
 use Rattle.numbers.proofs.Writing.{put-then, leaves, put-none}
 use Rattle.text.specs.Text.{decimal, line}
 use Rattle.tally.specs.Totals.{Totals, cell-w, cell-h, cell-type, in-cell}
 use Rattle.report.specs.Report.{cell-line, headed, report}
-use Rattle.tally.specs.Inner.{cells, sums-of}
+use Rattle.tally.specs.Counts.{cells, sums-of}
 use Rattle.report.specs.Inner.{cell-lines}
 use Rattle.text.proofs.Texts.{decimal-short}
 use Rattle.tally.proofs.Tallies.{past-four}

@@ -7,7 +7,6 @@ use lib.Dec.{T}
 use lib.IntN.{ℤ, pos, natAbs}
 use lib.ListN.{length}
 use Rattle.whole.specs.Lists.{at}
-use Rattle.levels.specs.declared.Kind.the-variants.{Wht}
 use Rattle.bitdepth.specs.declared.Depth.{Depth}
 use Rattle.levels.specs.declared.Plan.{Plan}
 use Rattle.steps.specs.declared.Engine.{Engine}
@@ -38,7 +37,3 @@ pub record ResolvedIn (n : ℕ) (e : Engine) (p : Plan) (d : Depth) (c : List �
 
 abbrev pub Resolved : Engine → Plan → Depth → List ℤ → ℕ → List ℤ → Bool → Type 0
 Resolved = ResolvedIn 1024
-
--- the plan of WHT_WHT, whose shift no step takes
-abbrev pub wht-plan : ℕ → Plan
-wht-plan shift = record { w = 4; h = 4; shift = shift; rows = Wht; columns = Wht }

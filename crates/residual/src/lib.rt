@@ -10,6 +10,7 @@ ghost use lib.Dec.{T};
 ghost use Rattle.passes.specs.Passes.{identity};
 ghost use Rattle.scaling.specs.Scaling.{rounding};
 ghost use Rattle.steps.specs.Blocks as Blocks;
+ghost use Rattle.levels.specs.Plans.{wht-plan};
 ghost use Rattle.residual.specs.Inner as Inner;
 ghost use Rattle.steps.specs.Inner as Steps;
 ghost use Rattle.quick.specs.Inner as Quick;
@@ -127,8 +128,8 @@ fn columns(
 
 // Steps 1 to 3 of WHT_WHT on rows 0..r-1.
 fn rows_of_wht(t: &mut [i32], coeff: &[i32], r: usize)
-    requires { ⌜ Steps.ResolvesIn 16 (Inner.wht-plan 0) (now coeff) r (now t) ⌝ }
-    ensures { λ _. ⌜ Steps.HoldsIn 16 4 r (λ y x. at (Steps.row-made (Inner.wht-plan 0) 0 (now (coeff .entry)) y .values) x) (now (t .exit)) ⌝ }
+    requires { ⌜ Steps.ResolvesIn 16 (wht-plan 0) (now coeff) r (now t) ⌝ }
+    ensures { λ _. ⌜ Steps.HoldsIn 16 4 r (λ y x. at (Steps.row-made (wht-plan 0) 0 (now (coeff .entry)) y .values) x) (now (t .exit)) ⌝ }
 {
     let plan = Plan {
         w: 4,
@@ -155,9 +156,9 @@ fn columns_of_wht(t: &mut [i32])
 
 // Steps 1 to 5 of WHT_WHT with r live rows, on sixteen zeros. No pass has the mark.
 pub fn resolve_wht(t: &mut [i32], coeff: &[i32], r: usize)
-    requires { ⌜ Steps.ResolvesIn 16 (Inner.wht-plan 0) (now coeff) r (now t) ⌝ }
+    requires { ⌜ Steps.ResolvesIn 16 (wht-plan 0) (now coeff) r (now t) ⌝ }
     ensures { λ _. ⌜ ((shift : ℕ) (depth : Depth)
-        → Inner.ResolvedIn 16 Engine.First (Inner.wht-plan shift) depth (now (coeff .entry)) r (now (t .exit)) Bool.false) ⌝ }
+        → Inner.ResolvedIn 16 Engine.First (wht-plan shift) depth (now (coeff .entry)) r (now (t .exit)) Bool.false) ⌝ }
 {
     rows_of_wht(&mut *t, coeff, r);
     columns_of_wht(&mut *t);

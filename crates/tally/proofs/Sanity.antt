@@ -13,7 +13,8 @@ use Rattle.whole.specs.Lists.{tab}
 use Rattle.whole.proofs.Counts.{tab-length}
 use Rattle.numbers.specs.Form.{Each}
 use Rattle.tally.specs.Totals.{Tally, sum, greatest, moves, totals, cell-w, cell-h, cell-type, in-cell}
-use Rattle.tally.specs.Inner.{one-if, is-of, cells, sums-of, Modest, Sane, every-below, sane}
+use Rattle.tally.specs.Inner.{Sane}
+use Rattle.tally.specs.Counts.{one-if, is-of, cells, sums-of, Modest, every-below, sane}
 use Rattle.tally.proofs.Sums.{both-true, change-most, records-are}
 
 -- ---- the test, number by number

@@ -26,7 +26,8 @@ use Rattle.checks.proofs.Verdicts.{accepted-by}
 use Rattle.itx.proofs.Numbers.{num, answer-num, refusal-number}
 use Rattle.numbers.specs.Form.{Each}
 use Rattle.tally.specs.Totals.{Tally, sum, greatest, moves, totals, _⊕_, cell-w, cell-h, cell-type, in-cell}
-use Rattle.tally.specs.Inner.{one-if, is-of, all-cells, cells, Countable, Rank, CellOf}
+use Rattle.tally.specs.Inner.{Rank, CellOf}
+use Rattle.tally.specs.Counts.{one-if, is-of, all-cells, cells, Countable}
 
 pub sum-append : {A : Type 0} (f : A → ℕ) (xs ys : List A) → sum f (xs ++ ys) ≡ sum f xs + sum f ys
 sum-append f [] ys = sym (zero-add (sum f ys))

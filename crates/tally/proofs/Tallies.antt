@@ -12,7 +12,8 @@ use lib.Seq.{take-suc, take-suc-set, take-all, drop-cons}
 use Rattle.whole.specs.Lists.{tab}
 use Rattle.whole.proofs.Counts.{tab-at, set-tab}
 use Rattle.tally.specs.Totals.{Tally, sum, greatest, distances, moves, Totals, totals, _⊕_, in-cell}
-use Rattle.tally.specs.Inner.{one-if, distance, cells, sums-of, Paired, Kept, CellOf, Measured}
+use Rattle.tally.specs.Inner.{distance, Paired, Kept, CellOf, Measured}
+use Rattle.tally.specs.Counts.{one-if, cells, sums-of}
 use Rattle.tally.proofs.Sums.{sum-append, greatest-append, totals-append, one-cell}
 
 -- ---- the distances of two lists of one length

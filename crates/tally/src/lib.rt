@@ -6,7 +6,8 @@ ghost use Rattle.levels.specs.Sides.{len, side};
 ghost use Rattle.tally.specs.Totals as Totals;
 ghost use Rattle.tally.specs.Totals.{distances};
 ghost use Rattle.tally.specs.Inner as Inner;
-ghost use Rattle.tally.specs.Inner.{one-if, sane, tallied, CellOf, Measured, Rank, Added, Countable, Paired, Sane};
+ghost use Rattle.tally.specs.Inner.{tallied, CellOf, Measured, Rank, Added, Paired, Sane};
+ghost use Rattle.tally.specs.Counts.{one-if, sane, Countable};
 use blockfile::record::Head;
 
 // The sum and the greatest of distances.

@@ -6,14 +6,15 @@ use Prim.Native.Nat.{ℕ, _≤_}
 use native.Mathlib.Omega.{arith}
 use lib.ListN.{length}
 use Rattle.blockfile.specs.File.{refused-at}
-use Rattle.numbers.specs.Inner.{Put}
+use Rattle.numbers.specs.Put.{Put}
 use Rattle.numbers.proofs.Writing.{put-none}
 use Rattle.text.specs.Text.{refused-line}
 use Rattle.task.specs.Task.{both}
 use Rattle.task.specs.Steps.{Step}
 use Rattle.tally.specs.Totals.{Totals, totals}
 use Rattle.report.specs.Report.{report}
-use Rattle.tally.specs.Inner.{sums-of, Sane, sane}
+use Rattle.tally.specs.Inner.{Sane}
+use Rattle.tally.specs.Counts.{sums-of, sane}
 use Rattle.tally.proofs.Sanity.{sane-is}
 use Rattle.task.specs.Blocks.{said, blocks}
 use Rattle.task.specs.Salvage.{salvage}

@@ -5,9 +5,9 @@ use mathlib.Core.List.{List}
 use Prim.Native.Nat.{ℕ, zero, suc, _+_, _≤_}
 use lib.Dec.{leb}
 use lib.ListN.{length, drop}
-use Rattle.numbers.specs.Inner.{Put}
+use Rattle.numbers.specs.Put.{Put}
 use Rattle.tally.specs.Totals.{totals}
-use Rattle.tally.specs.Inner.{sums-of, sane}
+use Rattle.tally.specs.Counts.{sums-of, sane}
 use Rattle.task.specs.Task.{Written, nothing}
 use Rattle.task.specs.Steps.{Place, outset, before, Step, wrote, wanted, closed, mind, step}
 use Rattle.task.specs.declared.Job.{Job}

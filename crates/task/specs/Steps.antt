@@ -6,8 +6,7 @@ use Prim.Native.Nat.{ℕ, suc}
 use lib.Dec.{eqb}
 use Rattle.numbers.specs.Read.{Read, got, refused}
 use Rattle.blockfile.specs.Record.{Block, form}
-use Rattle.blockfile.specs.File.{End, here, refused-at, known}
-use Rattle.blockfile.specs.Inner.{first}
+use Rattle.blockfile.specs.File.{End, here, refused-at, known, first}
 use Rattle.task.specs.Task.{Written, Done, done, bad, Task}
 
 -- before the first number; or before record i of a file of version v, with what is kept in mind

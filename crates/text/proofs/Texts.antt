@@ -13,7 +13,7 @@ use lib.Seq.{take-suc}
 use borrow.Author.Tests.{lt-ltb, le-ltb, ltb-true, ltb-false}
 use mir.Syntax.{w32}
 use mir.Val.{SFits, toZ, ofZ}
-use Rattle.numbers.specs.Inner.{Put}
+use Rattle.numbers.specs.Put.{Put}
 use Rattle.numbers.proofs.Writing.{put-then, put-length}
 use Rattle.whole.proofs.Signs.{Negative, Natural}
 use Rattle.text.specs.Text.{digits, decimal, signed}

@@ -1,7 +1,7 @@
 // Numbers and lines in ASCII, put into a slice.
 ghost use Prim.Native.Nat.{_+_, _≤_};
 ghost use lib.ListN.{length};
-ghost use Rattle.numbers.specs.Inner.{Put};
+ghost use Rattle.numbers.specs.Put.{Put};
 ghost use Rattle.text.specs.Text.{decimal, refused-line, signed};
 
 // Puts n in decimal digits at the place `at`, and answers the place after it.

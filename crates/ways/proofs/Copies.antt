@@ -13,7 +13,8 @@ use Rattle.levels.specs.declared.Plan.{Plan}
 use Rattle.steps.specs.declared.Engine.{Engine}
 use Rattle.steps.specs.Blocks.{way-by}
 use Rattle.steps.specs.Inner.{Coefs}
-use Rattle.residual.specs.Inner.{ResolvedIn, wht-plan}
+use Rattle.residual.specs.Inner.{ResolvedIn}
+use Rattle.levels.specs.Plans.{wht-plan}
 use Rattle.checks.specs.Table.{Call, plain, live}
 use Rattle.ways.specs.Inner.{Suits}
 use Rattle.checks.specs.Inner.{Widened}

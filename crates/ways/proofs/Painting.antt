@@ -25,7 +25,8 @@ use Rattle.steps.specs.declared.Engine.{Engine}
 use Rattle.scaling.specs.Scaling.{shortcut}
 use Rattle.steps.specs.Blocks.{way-by, residual}
 use Rattle.steps.specs.Inner.{Sized}
-use Rattle.residual.specs.Inner.{ResolvedIn, wht-plan}
+use Rattle.residual.specs.Inner.{ResolvedIn}
+use Rattle.levels.specs.Plans.{wht-plan}
 use Rattle.steps.proofs.Places.{by-row}
 use Rattle.ways.specs.Inner.{Ready, Passed, Shortened}
 use native.Mathlib.Nat.{mul-le-mul}

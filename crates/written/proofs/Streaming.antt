@@ -9,9 +9,8 @@ use lib.ListN.{length}
 use borrow.Author.Tests.{eqb-true, eqb-false}
 use Rattle.numbers.specs.Read.{Read, got, refused}
 use Rattle.blockfile.specs.Record.{Block, form}
-use Rattle.blockfile.specs.File.{here, refused-at, onward, records-in, records, known, read-file}
+use Rattle.blockfile.specs.File.{here, refused-at, onward, records-in, records, known, read-file, first}
 use Rattle.numbers.specs.Form.{only-if}
-use Rattle.blockfile.specs.Inner.{first}
 use Rattle.blockfile.specs.File as File
 use Rattle.numbers.proofs.Forms.{whole}
 use Rattle.numbers.proofs.Rooms.{number-room, only-if-room}

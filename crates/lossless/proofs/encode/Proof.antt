@@ -12,7 +12,8 @@ use borrow.Author.Needs.{needs}
 use Rattle.whole.specs.Lists.{at}
 use Rattle.bitdepth.specs.declared.Depth.the-variants.{Eight}
 use Rattle.steps.specs.declared.Engine.the-variants.{First}
-use Rattle.residual.specs.Inner.{wht-plan, ResolvedIn}
+use Rattle.residual.specs.Inner.{ResolvedIn}
+use Rattle.levels.specs.Plans.{wht-plan}
 use Rattle.itx.proofs.Accepted.{sized}
 use Rattle.ways.proofs.Painting.{zeros-at}
 use Rattle.lossless.specs.Inner.{Sixteen, crossed}

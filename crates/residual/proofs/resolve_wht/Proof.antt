@@ -15,7 +15,8 @@ use Rattle.bitdepth.specs.declared.Depth.{Depth}
 use Rattle.bitdepth.specs.declared.Depth.the-variants.{Eight}
 use Rattle.bitdepth.specs.Depths.{row-range, column-range}
 use Rattle.steps.specs.declared.Engine.the-variants.{First}
-use Rattle.residual.specs.Inner.{wht-plan, Served}
+use Rattle.residual.specs.Inner.{Served}
+use Rattle.levels.specs.Plans.{wht-plan}
 use Rattle.steps.specs.Inner.{Filled, row-made, HoldsIn, RowsAreIn, Columned, ColumnsAreIn}
 use Rattle.residual.proofs.Whole.{rowed-left, resolved}
 use Rattle.residual.proofs.resolve_wht.Statement.{statement}

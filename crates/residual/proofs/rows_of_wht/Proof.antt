@@ -5,7 +5,7 @@ use native.Mathlib.Nat.{le-refl, le-trans}
 use native.Mathlib.Omega.{arith}
 use lib.Dec.{lit≤}
 use Rattle.whole.specs.Lists.{at}
-use Rattle.residual.specs.Inner.{wht-plan}
+use Rattle.levels.specs.Plans.{wht-plan}
 use Rattle.steps.specs.Inner.{row-made, HoldsIn}
 use Rattle.steps.proofs.Fills.{rows-none, rows-more}
 use Rattle.steps.proofs.Places.{loaded-small}

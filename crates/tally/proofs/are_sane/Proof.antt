@@ -3,7 +3,7 @@ use mathlib.Core.Path.{_≡_, refl}
 use Prim.Native.Nat.{_-_}
 use borrow.Author.Needs.{needs}
 use lib.ListN.{length, drop}
-use Rattle.tally.specs.Inner.{every-below}
+use Rattle.tally.specs.Counts.{every-below}
 use Rattle.tally.proofs.Sanity.{not-sized, next-below, not-below, all-below}
 use Rattle.tally.proofs.are_sane.Statement.{statement}
 use Rattle.tally.proofs.are_sane.Tie as tie

@@ -5,7 +5,7 @@ use borrow.Author.Needs.{needs}
 use borrow.Fn.Kinds.{In}
 use borrow.Fn.PlainCycle.{Measures, is, falls, and}
 use lib.ListN.{set}
-use Rattle.numbers.specs.Inner.{Put}
+use Rattle.numbers.specs.Put.{Put}
 use Rattle.numbers.proofs.Writing.{put-length}
 use Rattle.text.specs.Text.{decimal}
 use Rattle.text.proofs.Texts.{decimal-length, put-few, put-more}

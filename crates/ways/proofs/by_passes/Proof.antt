@@ -9,7 +9,7 @@ use Rattle.levels.specs.declared.Plan.{Plan}
 use Rattle.levels.proofs.Sizes.{side-bounds}
 use Rattle.steps.specs.declared.Engine.{Engine}
 use Rattle.steps.specs.declared.Engine.the-variants.{First}
-use Rattle.residual.specs.Inner.{wht-plan}
+use Rattle.levels.specs.Plans.{wht-plan}
 use Rattle.ways.specs.Inner.{Ready, Passed}
 use Rattle.ways.proofs.Painting.{zeros-at, adding, painted, wht-planned, any-shift}
 use Rattle.ways.proofs.by_passes.Statement.{statement}

@@ -9,7 +9,7 @@ use Rattle.bitdepth.specs.declared.Depth.the-variants.{Eight}
 use Rattle.levels.specs.declared.Plan.{Plan}
 use Rattle.levels.proofs.Sizes.{side-bounds}
 use Rattle.steps.specs.declared.Engine.the-variants.{First}
-use Rattle.residual.specs.Inner.{wht-plan}
+use Rattle.levels.specs.Plans.{wht-plan}
 use Rattle.ways.specs.Inner.{Ready, Passed}
 use Rattle.checks.specs.Inner.{Widened}
 use Rattle.ways.proofs.Copies.{small-copy, resolved-copy, any-shift-copy}

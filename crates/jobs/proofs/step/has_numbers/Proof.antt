@@ -1,7 +1,7 @@
 -- `step::has_numbers` meets its contract.
 use mathlib.Core.Path.{sym, ap, _∙_}
 use mathlib.Core.Bool.{Bool, true, cond}
-use Rattle.tally.specs.Inner.{sane}
+use Rattle.tally.specs.Counts.{sane}
 use borrow.Author.Needs.{needs}
 use Rattle.jobs.proofs.step.has_numbers.Statement.{statement}
 use Rattle.jobs.proofs.step.has_numbers.Tie as tie
