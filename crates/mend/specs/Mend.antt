@@ -44,8 +44,7 @@ change m i v = record { place = i; old = v; new = moved m v }
 -- "each change exactly once, and no others": those of coefficients in the file's order, the first of which has place i
 abbrev pub changes : ℕ → ℕ → List ℤ → List Change
 changes m i [] = []
-changes m i (v ∷ vs) =
-    cond (outside v (low m) (high m)) (record { place = i; old = v; new = moved m v } ∷ changes m (suc i) vs) (changes m (suc i) vs)
+changes m i (v ∷ vs) = cond (outside v (low m) (high m)) (change m i v ∷ changes m (suc i) vs) (changes m (suc i) vs)
 
 -- "each such coefficient, and nothing else, moved"; "copied as it stands"
 abbrev pub mended : Check ℕ → List ℤ → List ℤ

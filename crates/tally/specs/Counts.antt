@@ -9,6 +9,7 @@ use Rattle.whole.specs.Lists.{tab}
 use Rattle.levels.specs.Sides.{len, side}
 use Rattle.tally.specs.Totals.{Tally, Totals, in-cell, moves}
 
+-- what a record counts for where it has a property, and where not
 abbrev pub one-if : Bool → ℕ
 one-if t = cond t 1 0
 
