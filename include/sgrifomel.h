@@ -1,4 +1,4 @@
-/* The calls of libsgrifomel.a (rt staticlib sgrifomel). */
+/* The calls of libsgrifomel.a (tools/archive). */
 #ifndef SGRIFOMEL_H
 #define SGRIFOMEL_H
 
