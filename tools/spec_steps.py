@@ -218,7 +218,9 @@ def known():
         pixels = [pixel] * (w * h)
         last = "eob %d" % eob if live is None else "r %d" % live
         done = (pixels, coefs) if kind not in KINDS else expected(w, h, kind, depth, eob, coefs, pixels, live)
-        print("spec %dx%d type %d depth %d offset 0 stride %d %s %s: %d 0 no %s" % (w, h, kind, depth, 2 * w, last, block(pixels, coefs), 0 if kind in KINDS else 2, block(*done)))
+        number = 0 if kind in KINDS else 2
+        print("spec %dx%d type %d depth %d offset 0 stride %d %s %s: %d 0 no %s"
+              % (w, h, kind, depth, 2 * w, last, block(pixels, coefs), number, block(*done)))
 
 
 # ---- the library's two engines beside these steps
@@ -246,7 +248,12 @@ def generated(rng):
     kind, depth = rng.choice(kinds), rng.choice((8, 10, 12))
     m = 1 << depth + 7
     style, share = rng.randrange(4), rng.choice((0.03, 0.3, 1.0))
-    one = {0: lambda: rng.choice((-m, m - 1)), 1: lambda: rng.randrange(-m, m), 2: lambda: rng.randrange(-200, 201), 3: lambda: rng.randrange(-m // 8, m // 8)}[style]
+    one = {
+        0: lambda: rng.choice((-m, m - 1)),
+        1: lambda: rng.randrange(-m, m),
+        2: lambda: rng.randrange(-200, 201),
+        3: lambda: rng.randrange(-m // 8, m // 8),
+    }[style]
     coefs = [one() if rng.random() < share else 0 for _ in range(w * h)]
     return w, h, kind, depth, rng.randrange(3), coefs, [rng.randrange(1 << depth) for _ in range(w * h)]
 
