@@ -1,6 +1,7 @@
--- The invariant is `Filling`.
+-- The invariant is `Filling`, of the part of `out` that is filled.
+use Rattle.std.proofs.Common.{take}
 use Rattle.blockfile.proofs.Fill.{Filling}
 use Rattle.blockfile.proofs.samples.read_samples.Given as goal
 
-abbrev pub invariant-loop-i : goal.invariant-loop-i
-invariant-loop-i g l = Filling g.S.Sample.form l.s l.at l.n l.fn.out l.out l.p l.i
+abbrev pub invariant-loop-sample : goal.invariant-loop-sample
+invariant-loop-sample g l = Filling g.S.Sample.form l.s l.at l.n (take l.n l.fn.out) l.sample-items l.p l.sample-index
